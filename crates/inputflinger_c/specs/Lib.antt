@@ -5,3 +5,4 @@ pub mod Judging
 pub mod States
 pub mod Keys
 pub mod Serving
+pub mod Sizes

@@ -19,6 +19,7 @@ LiveFrees old status new = (status ≡ (if is_some old then is_ok else is_free))
 pub record Begins (limit : ℕ) (displays : List ℕ) (s : LiveState) : Type 0 where
   pub start : LiveIs displays [] s
   pub limit_is : s.limit ≡ limit
+  pub clock : s.clock ≡ 0
   pub seats : s.seats ≡ replicate 64 vacant
   pub opened : s.opened ≡ 0
   pub named : s.named ≡ 0

@@ -10,7 +10,6 @@ use std::mem;
 
 /// `struct inputflinger_judge`: a judge, or nothing while it is free. It is free if all its bytes are 0.
 #[repr(C)]
-#[derive(Drop)]
 pub struct Judge {
     pub cell: JudgeCell,
     pub(crate) is_open: bool,
@@ -43,7 +42,7 @@ impl Judge {
         if !self.is_open {
             return None;
         }
-        let Judge { cell, .. } = mem::replace(self, Judge::free(alloc));
+        let Judge { cell, is_open: _ } = mem::replace(self, Judge::free(alloc));
         Some(cell.into_box())
     }
 
@@ -52,9 +51,11 @@ impl Judge {
         requires { self.old.cell.told ≡ None }
         ensures { self.new.cell.told ≡ Some judge.value }
     {
-        *self = Judge {
+        let full = Judge {
             cell: JudgeCell::of(Unboxed::from_box(judge)),
             is_open: true,
         };
+        let Judge { cell, is_open: _ } = mem::replace(self, full);
+        cell.destroy_empty();
     }
 }

@@ -11,7 +11,6 @@ use std::ptr;
 
 /// The judge that a handle owns, or nothing.
 #[repr(C)]
-#[derive(Drop)]
 pub struct JudgeCell {
     at: *mut u8,
     alloc: Global,
@@ -42,6 +41,13 @@ impl JudgeCell {
             at: at as *mut u8,
             alloc,
         }
+    }
+
+    /// Takes apart a cell without a judge, which owns no memory.
+    pub fn destroy_empty(self)
+        requires { self.told ≡ None }
+    {
+        let JudgeCell { at: _, alloc: _ } = self;
     }
 
     /// The judge of a cell that has one.

@@ -11,7 +11,6 @@ use std::ptr;
 
 /// The service that a handle owns, or nothing.
 #[repr(C)]
-#[derive(Drop)]
 pub struct LiveCell {
     at: *mut u8,
     alloc: Global,
@@ -42,6 +41,13 @@ impl LiveCell {
             at: at as *mut u8,
             alloc,
         }
+    }
+
+    /// Takes apart a cell without a service, which owns no memory.
+    pub fn destroy_empty(self)
+        requires { self.state ≡ None }
+    {
+        let LiveCell { at: _, alloc: _ } = self;
     }
 
     /// The service of a cell that has one.

@@ -1,7 +1,7 @@
 //! What is due in a live service, and what its devices deliver.
 ghost use Rattle.std.specs.Prelude.{◌≡◌, ⊤, nat_eq};
 ghost use Rattle.plain_calls.specs.Calling.{Reads, Replies, ok_of, answer_status, written};
-ghost use Rattle.plain_calls.specs.Driving.{IsDue, CaughtUp, Happened, HandedIn, Removed, TouchAdded, event};
+ghost use Rattle.plain_calls.specs.Driving.{IsDue, CaughtUp, Happened, HandedIn, Removed, TouchAdded};
 ghost use Rattle.plain_calls.specs.Layouts.{AddsKeys, layout_from};
 ghost use Rattle.plain_calls.specs.Numbers.{device_of, display_of, moment_of};
 ghost use Rattle.plain_calls.specs.Plain.{args_of};
@@ -70,7 +70,7 @@ pub extern "C" fn inputflinger_proved_live_event(
     ensures { OnService live.old.cell.state result live.new.cell.state ⊤
         (λ old new. Reads (moment_of now_us) result (new ≡ old)
         (λ now. Reads (device_of device) result (new ≡ old)
-        (λ d. Replies args_status result (Happened now d (event now d kind code value) old new)))) }
+        (λ d. Replies args_status result (Happened now d kind code value old new)))) }
 {
     let Some(mut service) = live.take(alloc) else {
         return FREE;

@@ -10,7 +10,6 @@ use std::mem;
 
 /// `struct inputflinger_live`: a live service, or nothing while it is free. It is free where all its bytes are 0.
 #[repr(C)]
-#[derive(Drop)]
 pub struct Service {
     pub cell: LiveCell,
     pub(crate) is_open: bool,
@@ -43,7 +42,7 @@ impl Service {
         if !self.is_open {
             return None;
         }
-        let Service { cell, .. } = mem::replace(self, Service::free(alloc));
+        let Service { cell, is_open: _ } = mem::replace(self, Service::free(alloc));
         Some(cell.into_box())
     }
 
@@ -52,9 +51,11 @@ impl Service {
         requires { self.old.cell.state ≡ None }
         ensures { self.new.cell.state ≡ Some live.value }
     {
-        *self = Service {
+        let full = Service {
             cell: LiveCell::of(Unboxed::from_box(live)),
             is_open: true,
         };
+        let Service { cell, is_open: _ } = mem::replace(self, full);
+        cell.destroy_empty();
     }
 }

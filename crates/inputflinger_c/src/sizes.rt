@@ -1,5 +1,6 @@
 //! What tests of the header hold its structs against.
-ghost use Rattle.std.specs.Prelude.{◌≡◌, ◌≤◌};
+ghost use Rattle.std.specs.Prelude.{◌≡◌};
+ghost use Rattle.inputflinger_c.specs.Sizes.{size_of};
 
 use crate::fault::PlainFault;
 use crate::judge::Judge;
@@ -16,7 +17,7 @@ use std::mem::size_of;
 /// a panel, 12 for displays, 13 for what a run came to. 0 for another number.
 #[unsafe(no_mangle)]
 pub extern "C" fn inputflinger_proved_size(number: u32) -> usize
-    ensures { 14 ≤ number → result ≡ 0 }
+    ensures { result ≡ size_of number }
 {
     match number {
         0 => size_of::<Judge>(),

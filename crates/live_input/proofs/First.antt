@@ -3,6 +3,8 @@ use Rattle.std.proofs.Common.{◌≡◌, ℕ, zero, suc, ◌-◌, ◌≤◌, tru
 use Rattle.std.proofs.lemmas.Bool.{true≢false}
 use Rattle.dispatcher.specs.Access.{gone, anrs_released}
 use Rattle.dispatcher.specs.Dispatching.{StandsFor}
+use Rattle.window_snapshot.specs.Mask.{mask_has}
+use Rattle.window_snapshot.proofs.Masks.{mask_has-zero}
 use Rattle.live_input.specs.Seats.{is_held, seat_of, vacant}
 use Rattle.live_input.specs.Standing.{LiveIs}
 use Rattle.live_input.specs.State.{LiveState}
@@ -14,8 +16,8 @@ same_at x (suc n) (suc i) = same_at x n i
 
 pub live_first : (ds : List ℕ) (s : LiveState) → StandsFor [] s.dispatcher → s.dispatcher.displays ≡ ds → s.windows ≡ []
     → s.requested ≡ replicate 4 None → s.asked ≡ 0 → s.seats ≡ replicate 64 vacant
-    → ((c : ℕ) → 1 ≤ c → gone s.dispatcher c ≡ 0) → anrs_released s.dispatcher ≡ 0 → LiveIs ds [] s
-live_first ds s stands displays windows requested asked seats gone anrs =
+    → ((c : ℕ) → 1 ≤ c → gone s.dispatcher c ≡ 0) → anrs_released s.dispatcher ≡ 0 → s.named ≡ 0 → LiveIs ds [] s
+live_first ds s stands displays windows requested asked seats gone anrs named =
     record {
       stands = stands;
       displays_are = displays;
@@ -40,6 +42,7 @@ live_first ds s stands displays windows requested asked seats gone anrs =
             left = λ c low high is. absurd (omega (arith, low, high));
             begun = λ c held. absurd (none c held.2);
           };
+      named_are = λ c is. absurd (true≢false (sym is ∙ ap (λ n. mask_has n c) named ∙ mask_has-zero c));
       release = record { messages_are = gone; anrs_are = anrs };
     }
   where

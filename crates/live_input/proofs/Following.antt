@@ -16,7 +16,7 @@ use Rattle.live_input.specs.Advancing.{Advances, Advanced}
 use Rattle.live_input.specs.Settling.{Follows, Reaches, is_named_in, next_waiting, next_left, next_due, left_call, tick_by, repeat_by, sooner_call, timeout}
 use Rattle.live_input.specs.declared.client.Seat.{Seat}
 use Rattle.live_input.specs.Seats.{IsHeld}
-use Rattle.live_input.specs.Standing.{IsOfHeld, LiveIs, is_plain}
+use Rattle.live_input.specs.Standing.{IsMaskOfHeld, IsOfHeld, LiveIs, is_plain}
 use Rattle.live_input.specs.State.{LiveState}
 
 -- one call after others
@@ -130,10 +130,11 @@ pub or_more : (a b c : Bool) → ((a || b) || c) ≡ (a || (b || c))
 or_more true b c = refl
 or_more false b c = refl
 
--- the recorded reports do not matter
-pub live_noted : (ds : List ℕ) (es : List Effect) (s : LiveState) (n : ℕ) → LiveIs ds es s → LiveIs ds es (record s { named = n })
-live_noted ds es s n h =
-    record { stands = h.stands; displays_are = h.displays_are; windows_are = h.windows_are; requests_are = h.requests_are; seats_are = h.seats_are; tenants_are = h.tenants_are; release = h.release }
+-- other clients that are open are reported
+pub live_noted : (ds : List ℕ) (es : List Effect) (s : LiveState) (n : ℕ) → LiveIs ds es s → IsMaskOfHeld n s.seats
+    → LiveIs ds es (record s { named = n })
+live_noted ds es s n h named =
+    record { stands = h.stands; displays_are = h.displays_are; windows_are = h.windows_are; requests_are = h.requests_are; seats_are = h.seats_are; tenants_are = h.tenants_are; named_are = named; release = h.release }
 
 -- nothing that is due has been done yet
 pub advances_first : (ds : List ℕ) (now : ℕ) (es : List Effect) (s : LiveState) → LiveIs ds es s → Advances ds now es s s

@@ -1,6 +1,7 @@
 -- What must still be handed in, one after another.
-use Rattle.std.proofs.lemmas.Bool.{true≢false, eqb-true}
-use Rattle.std.proofs.Common.{◌≡◌, ℕ, ℤ, ◌==◌, drop, remove, length, slice_get, Some, None, ◌&&◌, Bool, true, false, List, [], ◌∷◌, ◌++◌, Result, Ok, Err, ◌||◌, refl, sym, ap, ap₂, ◌∙◌, subst, arith}
+use Rattle.std.proofs.lemmas.Bool.{true≢false, eqb-true, ne_eqb}
+use Rattle.dispatcher.specs.Access.{any_waits}
+use Rattle.std.proofs.Common.{◌≡◌, ℕ, ℤ, ◌==◌, not, drop, remove, length, slice_get, Some, None, ◌&&◌, Bool, true, false, List, [], ◌∷◌, ◌++◌, Result, Ok, Err, ◌||◌, refl, sym, ap, ap₂, ◌∙◌, subst, arith}
 use Rattle.input_types.specs.declared.message.Args.{Args}
 use Rattle.raw_events.specs.declared.event.RawEvent.{RawEvent}
 use Rattle.device_reader.specs.Reading.{Reading}
@@ -13,8 +14,13 @@ use Rattle.live_input.specs.declared.refused.ArgsRefused.{ArgsRefused}
 use Rattle.live_input.specs.declared.refused.ArgsRefused.TheVariants.{NoDevice, Inconsistent, Memory, Waits}
 use Rattle.window_snapshot.specs.Mask.{mask_has}
 use Rattle.live_input.specs.Advancing.{Advances, Advanced}
-use Rattle.live_input.specs.Answers.{is_taken}
-use Rattle.live_input.specs.Settling.{is_named_in}
+use Rattle.dispatch_calls.specs.declared.call.Call.{Call}
+use Rattle.dispatch_history.specs.History.{moment_of}
+use Rattle.live_input.specs.Answers.{Makes, is_taken}
+use Rattle.live_input.specs.declared.client.Client.{Client}
+use Rattle.live_input.specs.Closing.{forgotten, hidden}
+use Rattle.live_input.specs.Opening.{Closes}
+use Rattle.live_input.specs.Settling.{Settles, is_named_in, next_left}
 use Rattle.live_input.specs.Giving.{HandedInPart, Delivers, Gives, all_taken, notified}
 use Rattle.live_input.specs.Standing.{LiveIs}
 use Rattle.live_input.specs.State.{LiveState}
@@ -36,17 +42,22 @@ pub remove_first : (xs : List Args) → (length xs == 0) ≡ false → remove xs
 remove_first [] e = absurd (true≢false e)
 remove_first (x ∷ xs) e = refl
 
+-- some args wait if the list is not empty
+pub some_wait : (xs : List Args) → not (length xs == 0) ≡ any_waits xs
+some_wait [] = refl
+some_wait (x ∷ xs) = ap not (ne_eqb (length (x ∷ xs)) 0 (λ e. absurd (omega (arith, e))))
+
 -- an event with another value that is the same
-abbrev with_value : (device moment kind code : ℕ) → ℤ → RawEvent
-with_value d m k c v = record { device = d; moment = m; kind = k; code = c; value = v }
+abbrev pub event_at : (device moment kind code : ℕ) → ℤ → RawEvent
+event_at d m k c v = record { device = d; moment = m; kind = k; code = c; value = v }
 
-pub same_value : (device moment kind code : ℕ) (v w : ℤ) → v ≡ w → with_value device moment kind code v ≡ with_value device moment kind code w
-same_value d m k c v w e = ap (with_value d m k c) e
+pub same_value : (device moment kind code : ℕ) (v w : ℤ) → v ≡ w → event_at device moment kind code v ≡ event_at device moment kind code w
+same_value d m k c v w e = ap (event_at d m k c) e
 
--- what is kept of devices is separate from the history
+-- what is kept of devices is separate from the history, and so is the clock
 pub beside_goes : (ds : List ℕ) (es : List Effect) (s : LiveState) → LiveIs ds es s → (devices : List (Option Reading)) (pending : List Args)
-    → LiveIs ds es (record s { devices = devices; pending = pending })
-beside_goes ds es s h devices pending =
+    → (clock : ℕ) → LiveIs ds es (record s { clock = clock; devices = devices; pending = pending })
+beside_goes ds es s h devices pending clock =
     record {
       stands = h.stands;
       displays_are = h.displays_are;
@@ -54,6 +65,7 @@ beside_goes ds es s h devices pending =
       requests_are = h.requests_are;
       seats_are = h.seats_are;
       tenants_are = h.tenants_are;
+      named_are = h.named_are;
       release = h.release;
     }
 
@@ -108,12 +120,12 @@ hands_part ds now es args s fits x = record { so_far = x.so_far; is = x.is; rest
 
 -- what is delivered after what still had to be handed in
 pub delivers_in : (ds : List ℕ) (now : ℕ) (es : List Effect) (args all : List Args) (X : Type 0) (r : Result (Unit {0}) ArgsRefused) (old new : LiveState)
-    → all ≡ old.pending ++ args → X → Delivers ds now es all r new → Gives ds now es args X r old new
-delivers_in ds now es args all X (Ok done) old new e x d = (x, subst (λ xs. Delivers ds now es xs (Ok done) new) e d)
-delivers_in ds now es args all X (Err Inconsistent) old new e x d = (x, subst (λ xs. Delivers ds now es xs (Err Inconsistent) new) e d)
-delivers_in ds now es args all X (Err Waits) old new e x d = (x, subst (λ xs. Delivers ds now es xs (Err Waits) new) e d)
-delivers_in ds now es args all X (Err NoDevice) old new e x d = (x, d)
-delivers_in ds now es args all X (Err Memory) old new e x d = absurd d
+    → all ≡ old.pending ++ args → X → new.clock ≡ now → Delivers ds now es all r new → Gives ds now es args X r old new
+delivers_in ds now es args all X (Ok done) old new e x k d = (x, k, subst (λ xs. Delivers ds now es xs (Ok done) new) e d)
+delivers_in ds now es args all X (Err Inconsistent) old new e x k d = (x, k, subst (λ xs. Delivers ds now es xs (Err Inconsistent) new) e d)
+delivers_in ds now es args all X (Err Waits) old new e x k d = (x, k, subst (λ xs. Delivers ds now es xs (Err Waits) new) e d)
+delivers_in ds now es args all X (Err NoDevice) old new e x k d = (x, k, d)
+delivers_in ds now es args all X (Err Memory) old new e x k d = absurd d
 
 pub beside_same : (s : LiveState) (devices : List (Option Reading)) (pending : List Args) → devices ≡ s.devices → pending ≡ s.pending
     → (record s { devices = devices; pending = pending }) ≡ s
@@ -145,3 +157,18 @@ advanced_from ds now es mask s t new e a =
       named_are = λ c. a.named_are c ∙ ap (λ n. mask_has n c || is_named_in ds es a.calls c) e;
       outgoing = a.outgoing;
     }
+
+-- the clock is raised, and with it a call is made
+pub live_later : (ds : List ℕ) (es : List Effect) (s : LiveState) (n : ℕ) → LiveIs ds es s → LiveIs ds es (record s { clock = n })
+live_later ds es s n h = beside_goes ds es s h s.devices s.pending n
+
+pub made : (ds : List ℕ) (es : List Effect) (s : LiveState) (n : ℕ) (call other : Call) → call ≡ other → n ≡ moment_of other
+    → LiveIs ds (answered ds call es) s → Makes ds es other (record s { clock = n })
+made ds es s n call other e m h = (live_later ds (answered ds other es) s n (subst (λ k. LiveIs ds (answered ds k es) s) e h), m)
+
+-- a client is closed at the clock, whichever way that is said
+pub closed_at : (ds : List ℕ) (es : List Effect) (k : Client) (old new : LiveState) (n m : ℕ) → n ≡ m → Closes k old new → new.clock ≡ m
+    → Settles ds (next_left n k.channel) (forgotten ds n k.channel (hidden ds n k.channel es)) new
+    → Closes k old new × (new.clock ≡ m) × Settles ds (next_left m k.channel) (forgotten ds m k.channel (hidden ds m k.channel es)) new
+closed_at ds es k old new n m e closes clock settles =
+    (closes, clock, subst (λ t. Settles ds (next_left t k.channel) (forgotten ds t k.channel (hidden ds t k.channel es)) new) e settles)

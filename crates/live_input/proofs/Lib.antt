@@ -19,3 +19,7 @@ pub mod First
 pub mod Handing
 pub mod Asked
 pub mod Plugged
+pub mod Reported
+pub mod Taken
+pub mod Settled
+pub mod Able

@@ -20,7 +20,7 @@ use Rattle.dispatch_tables.proofs.Lawfuls.{lawful_last}
 use Rattle.dispatcher.specs.Dispatching.{Dispatching, StandsFor}
 use Rattle.live_input.specs.declared.client.Seat.{Seat}
 use Rattle.live_input.specs.Seats.{IsHeld, with_seat}
-use Rattle.live_input.specs.Standing.{AreReleased, AreRequested, AreSeated, AreTenants, IsOfHeld, IsOfSome, LiveIs, is_plain}
+use Rattle.live_input.specs.Standing.{AreReleased, AreRequested, AreSeated, AreTenants, IsMaskOfHeld, IsOfHeld, IsOfSome, LiveIs, is_plain}
 use Rattle.live_input.specs.State.{LiveState}
 use Rattle.live_input.proofs.Tenants.{done_new, part_none, tenants_more}
 use Rattle.live_input.proofs.Vacant.{seated}
@@ -107,6 +107,7 @@ module _ (ds : List ℕ) (es : List Effect) (s : LiveState) (h : LiveIs ds es s)
             (λ y low. subst (λ o. IsOfSome o s.seats) (sym (plain_requested call y (requested h0 y) plain)) (h.tenants_are.asked y low))
             (λ c low high none. part_none s.seats call r c own none (λ limit k e f. absurd (true≢false (sym plain ∙ ap is_plain e))))
             (λ c lt le silent. let same_count = plain_opened call r (opened h0) plain in absurd (omega (arith, lt, le, same_count)));
+        named_are = h.named_are;
         release = release;
       }
 
@@ -127,6 +128,7 @@ module _ (ds : List ℕ) (es : List Effect) (s : LiveState) (h : LiveIs ds es s)
         tenants_are =
             tenants_more ds (Windows now ws) r es s.seats (lawful_of there) h.tenants_are own h.tenants_are.asked (λ c low high none. refl)
             (λ c lt le silent. absurd (omega (arith, lt, le)));
+        named_are = h.named_are;
         release = release;
       }
 
@@ -156,6 +158,7 @@ module _ (ds : List ℕ) (es : List Effect) (s : LiveState) (h : LiveIs ds es s)
             (λ z zt. of_some s.seats (z == y) channel (requested h0 z) own (h.tenants_are.asked z zt))
             (λ c from high none. refl)
             (λ c lt le silent. absurd (omega (arith, lt, le)));
+        named_are = h.named_are;
         release = release;
       }
     where
@@ -228,6 +231,7 @@ module _ (ds : List ℕ) (es : List Effect) (s : LiveState) (h : LiveIs ds es s)
               h.tenants_are.asked
               (λ c low high none. ap (λ b. cond b (Opens limit) Untouched) (ne_eqb c (opened (past_of es) + 1) (λ e. absurd (omega (arith, high, e)))))
               (λ c lt le silent. done_new ds limit (opened (past_of es) + 1) es c (lawful_of stands) silent lt);
+          named_are = h.named_are;
           release = release;
         },
       )
@@ -235,8 +239,8 @@ module _ (ds : List ℕ) (es : List Effect) (s : LiveState) (h : LiveIs ds es s)
 -- the seat of a channel that was opened is changed
 pub seat_goes : (ds : List ℕ) (es : List Effect) (s : LiveState) → LiveIs ds es s → (c : ℕ) (seat : Seat) → 1 ≤ c → c ≤ 64
     → c ≤ opened (past_of es) → AreTenants es (with_seat c seat s.seats) → (n : ℕ) (seats : List Seat) → seats ≡ with_seat c seat s.seats
-    → LiveIs ds es (record s { seats = seats; opened = n })
-seat_goes ds es s h c seat from to high tenants n seats same =
+    → (mask : ℕ) → IsMaskOfHeld mask (with_seat c seat s.seats) → LiveIs ds es (record s { seats = seats; opened = n; named = mask })
+seat_goes ds es s h c seat from to high tenants n seats same mask named =
     record {
       stands = h.stands;
       displays_are = h.displays_are;
@@ -244,5 +248,6 @@ seat_goes ds es s h c seat from to high tenants n seats same =
       requests_are = h.requests_are;
       seats_are = subst (AreSeated (past_of es)) (sym same) (seated (past_of es) s.seats c seat h.seats_are from to high);
       tenants_are = subst (AreTenants es) (sym same) tenants;
+      named_are = subst (IsMaskOfHeld mask) (sym same) named;
       release = h.release;
     }

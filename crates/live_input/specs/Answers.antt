@@ -5,6 +5,7 @@ use Rattle.dispatch_calls.specs.declared.call.Call.{Call}
 use Rattle.dispatch_calls.specs.declared.reply.Reply.{Reply}
 use Rattle.dispatch_calls.specs.declared.reply.Reply.TheVariants.{Done, NotSpy, Taken}
 use Rattle.dispatch_history.specs.Effect.{Effect}
+use Rattle.dispatch_history.specs.History.{moment_of}
 use Rattle.dispatch_history.specs.Legal.{answered}
 use Rattle.dispatch_history.specs.Reply.{reply_to}
 use Rattle.live_input.specs.declared.client.Seat.{Seat}
@@ -53,22 +54,26 @@ pub record SameSeats (old new : LiveState) : Type 0 where
   pub opened_is : new.opened ≡ old.opened
   pub limit_is : new.limit ≡ old.limit
 
--- After a finish by this call the service stands for the history with it. If memory runs out, nothing changes.
+-- The call was made: the service stands for the history with it, and the clock is its moment.
+abbrev pub Makes : List ℕ → List Effect → Call → LiveState → Type 0
+Makes displays es call s = LiveIs displays (answered displays call es) s × (s.clock ≡ moment_of call)
+
+-- The call was made, if the message could be finished or not. If memory runs out, nothing changes.
 abbrev pub Finishes : List ℕ → List Effect → Call → Result (Unit {0}) FinishRefused → (old new : LiveState) → Type 0
 Finishes displays es call (Ok done) old new =
-    (is_done (reply_to es call) ≡ true) × LiveIs displays (answered displays call es) new
+    (is_done (reply_to es call) ≡ true) × Makes displays es call new
 Finishes displays es call (Err finish.NotOpen) old new = ⊥
 Finishes displays es call (Err finish.UnknownSeq) old new =
-    (is_done (reply_to es call) ≡ false) × LiveIs displays (answered displays call es) new
+    (is_done (reply_to es call) ≡ false) × Makes displays es call new
 Finishes displays es call (Err finish.Memory) old new = new ≡ old
 
 -- The same holds after a pilfer, which also says why it was refused.
 abbrev pub Pilfers : List ℕ → List Effect → Call → Result (Unit {0}) PilferRefused → (old new : LiveState) → Type 0
-Pilfers displays es call (Ok done) old new = (is_done (reply_to es call) ≡ true) × LiveIs displays (answered displays call es) new
+Pilfers displays es call (Ok done) old new = (is_done (reply_to es call) ≡ true) × Makes displays es call new
 Pilfers displays es call (Err pilfer.NotOpen) old new = ⊥
 Pilfers displays es call (Err pilfer.NotSpy) old new =
-    (is_no_spy (reply_to es call) ≡ true) × LiveIs displays (answered displays call es) new
+    (is_no_spy (reply_to es call) ≡ true) × Makes displays es call new
 Pilfers displays es call (Err pilfer.NothingHeld) old new =
     (is_done (reply_to es call) ≡ false) × (is_no_spy (reply_to es call) ≡ false)
-    × LiveIs displays (answered displays call es) new
+    × Makes displays es call new
 Pilfers displays es call (Err pilfer.Memory) old new = new ≡ old

@@ -1,6 +1,9 @@
 -- What devices deliver, and how the history grows by it.
 use Rattle.std.specs.Prelude.{ℕ, ◌≡◌, ◌&&◌, ◌⊎◌, Bool, true, false, List, [], ◌∷◌, ◌++◌, map, Result, Ok, Err}
 use Rattle.input_types.specs.declared.message.Args.{Args}
+use Rattle.raw_events.specs.declared.event.RawEvent.{RawEvent}
+use Rattle.device_reader.specs.Cooked.{DevicePlan, args_of}
+use Rattle.device_table.specs.Table.{StandsAt}
 use Rattle.dispatch_calls.specs.declared.call.Call.TheVariants.{Notify}
 use Rattle.dispatch_history.specs.Effect.{Effect}
 use Rattle.dispatch_history.specs.Legal.{answered}
@@ -47,9 +50,16 @@ Delivers displays now es args (Err Waits) s = HandedInPart displays now es args 
 Delivers displays now es args (Err NoDevice) s = ⊥
 Delivers displays now es args (Err Memory) s = ⊥
 
--- What a device delivers is queued behind what must still be handed in, and delivered with that; the devices are then
--- these. If it cannot be queued, nothing changes.
+-- What a device delivers at this moment is queued behind what must still be handed in, and delivered with that; the
+-- devices are then these, and the clock is that moment. If it cannot be queued, nothing changes.
 abbrev pub Gives :
     List ℕ → (now : ℕ) → List Effect → List Args → (devices : Type 0) → Result (Unit {0}) ArgsRefused → (old new : LiveState) → Type 0
 Gives displays now es args devices (Err Memory) old new = new ≡ old
-Gives displays now es args devices result old new = devices × Delivers displays now es (old.pending ++ args) result new
+Gives displays now es args devices result old new =
+    devices × (new.clock ≡ now) × Delivers displays now es (old.pending ++ args) result new
+
+-- A reader with this plan, and these events so far, takes an event more, and what it then gives is delivered.
+abbrev pub GivesEvent :
+    List ℕ → (now : ℕ) → List Effect → DevicePlan → List RawEvent → RawEvent → Result (Unit {0}) ArgsRefused → (old new : LiveState) → Type 0
+GivesEvent displays now es plan past e result old new =
+    Gives displays now es (args_of plan past e) (StandsAt plan (e ∷ past) e.device new.devices) result old new

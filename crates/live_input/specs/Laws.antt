@@ -1,5 +1,5 @@
 -- Proved facts about channels and their clients. Each law is the clause of a function of its own.
-use Rattle.std.specs.Prelude.{ℕ, ◌≡◌, ◌≤◌, ◌<◌, false, true, List, [], ◌∷◌, ◌++◌, drop, length, reverse, slice_get, Some}
+use Rattle.std.specs.Prelude.{ℕ, ◌≡◌, ◌≤◌, ◌<◌, false, true, List, [], ◌∷◌, ◌++◌, drop, length, reverse, slice_get, Some, None}
 use Rattle.input_types.specs.declared.message.Message.{Message}
 use Rattle.input_types.specs.StreamRule.{stream_state, unsent}
 use Rattle.focus_resolver.specs.Resolver.{is_at}
@@ -22,7 +22,8 @@ use Rattle.dispatcher.specs.Access.{got, messages_of, anrs_released}
 use Rattle.live_input.specs.declared.client.Client.{Client}
 use Rattle.live_input.specs.Answers.{handed}
 use Rattle.live_input.specs.Seats.{is_held, is_open, seat_of}
-use Rattle.live_input.specs.Standing.{LiveIs}
+use Rattle.live_input.specs.Settling.{due_of, next_due, next_left}
+use Rattle.live_input.specs.Standing.{IsDone, LiveIs}
 use Rattle.live_input.specs.State.{LiveState}
 use Rattle.live_input.specs.Outgoing.{taken, sent_since}
 
@@ -104,3 +105,15 @@ abbrev pub AnrsLaw : Type 0
 AnrsLaw =
     (displays : List ℕ) (es : List Effect) (s : LiveState)
     → LiveIs displays es s → drop (anrs_released s.dispatcher) (anrs es) ≡ []
+
+-- After everything due up to a moment was done and nothing must be handed in, what is due is later.
+abbrev pub LaterLaw : Type 0
+LaterLaw =
+    (now : ℕ) (es : List Effect) (s : LiveState) (t : ℕ)
+    → next_due now es ≡ None → s.pending ≡ [] → due_of es s ≡ Some t → now < t
+
+-- After everything left on a channel was done, all of its messages are received and finished.
+abbrev pub DoneLaw : Type 0
+DoneLaw =
+    (displays : List ℕ) (now : ℕ) (es : List Effect) (s : LiveState) (c : ℕ)
+    → LiveIs displays es s → next_left now c es ≡ None → IsDone es c

@@ -10,6 +10,7 @@ pub mod Giving
 pub mod Plugging
 pub mod Asking
 pub mod Closing
+pub mod Taking
 pub mod Showing
 pub mod Opening
 pub mod Windows

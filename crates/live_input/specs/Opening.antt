@@ -1,7 +1,10 @@
 -- Clients that come and go.
-use Rattle.std.specs.Prelude.{ℕ, ◌≡◌, ◌+◌, ◌≤◌, nat_le, List, length, Some, None, Result, Ok, Err, if◌then◌else◌}
+use Rattle.std.specs.Prelude.{ℕ, ◌≡◌, true, ◌==◌, ◌&&◌, not, ◌+◌, ◌≤◌, nat_le, List, length, Some, None, Result, Ok, Err, if◌then◌else◌}
+use Rattle.window_snapshot.specs.Mask.{mask_has}
 use Rattle.dispatch_calls.specs.declared.call.Call.TheVariants.{Open}
+use Rattle.dispatch_history.specs.Delivery.{able}
 use Rattle.dispatch_history.specs.Effect.{Effect, past_of, stream}
+use Rattle.dispatch_history.specs.Focus.{asked}
 use Rattle.dispatch_history.specs.History.{opened}
 use Rattle.dispatch_history.specs.Legal.{answered}
 use Rattle.live_input.specs.declared.client.Client.{Client}
@@ -11,8 +14,9 @@ use Rattle.live_input.specs.declared.refused.CloseRefused.TheVariants.{NotOpen, 
 use Rattle.live_input.specs.Answers.{SameClients}
 use Rattle.live_input.specs.Closing.{hidden, forgotten}
 use Rattle.live_input.specs.Settling.{Settles, next_left}
-use Rattle.live_input.specs.Standing.{LiveIs, IsLive}
+use Rattle.live_input.specs.Standing.{LiveIs}
 use Rattle.live_input.specs.State.{LiveState}
+use Rattle.live_input.specs.Taking.{TakenInPart}
 
 -- a channel that was opened before is used again, and another one is opened
 abbrev pub opening : List ℕ → (limit channel : ℕ) → List Effect → List Effect
@@ -29,6 +33,7 @@ pub record Opens (client : Client) (old new : LiveState) : Type 0 where
       new.seats ≡ with_seat client.channel (record { holder = Some client.generation; before = before }) old.seats
   pub limit_is : new.limit ≡ old.limit
   pub named_is : new.named ≡ old.named
+  pub clock_is : new.clock ≡ old.clock
   pub devices_are : new.devices ≡ old.devices
   pub pending_is : new.pending ≡ old.pending
 
@@ -39,12 +44,13 @@ pub record IsNext (c : ℕ) (es : List Effect) : Type 0 where
   pub next : c ≤ opened (past_of es) + 1
 
 -- After that the service stands for the history with the call that opens the channel, if any, and the client's seat
--- says how many messages of the channel are from before it.
+-- says how many messages of the channel are from before it. The client can be given input at once.
 pub record OpensOn (displays : List ℕ) (es : List Effect) (client : Client) (old new : LiveState) : Type 0 where
   pub is : LiveIs displays (opening displays old.limit client.channel es) new
   pub before_is : (seat_of new.seats client.channel).before ≡ length (stream (opening displays old.limit client.channel es) client.channel)
+  pub able_is : able (opening displays old.limit client.channel es) client.channel ≡ true
 
--- The seat of the client is vacant, and all others stay as they are.
+-- The seat of the client is vacant, and all others stay as they are. If the client was reported unresponsive, nobody is told that any more.
 pub record Closes (client : Client) (old new : LiveState) : Type 0 where
   pub seats_are :
       new.seats
@@ -53,13 +59,15 @@ pub record Closes (client : Client) (old new : LiveState) : Type 0 where
   pub limit_is : new.limit ≡ old.limit
   pub devices_are : new.devices ≡ old.devices
   pub pending_is : new.pending ≡ old.pending
+  pub named_are : (c : ℕ) → mask_has new.named c ≡ (not (c == client.channel) && mask_has old.named c)
 
--- An open client is closed: its window is hidden, its requests are withdrawn, and everything left for it is received
--- and finished. If memory runs out, it is still open, and the service stands for some history with some of these
--- calls.
+-- An open client is closed at this moment, which is then the clock: its window is hidden, its requests are withdrawn, and everything left for it is received
+-- and finished. If memory runs out, it is still open, and some of that is done: each further call takes something away
+-- from it.
 abbrev pub CloseGoes : List ℕ → (now : ℕ) → Client → List Effect → Result (Unit {0}) CloseRefused → (old new : LiveState) → Type 0
 CloseGoes displays now k es (Ok done) old new =
-    Closes k old new
+    Closes k old new × (new.clock ≡ now)
     × Settles displays (next_left now k.channel) (forgotten displays now k.channel (hidden displays now k.channel es)) new
 CloseGoes displays now k es (Err NotOpen) old new = ⊥
-CloseGoes displays now k es (Err Memory) old new = SameClients old new × IsLive displays new
+CloseGoes displays now k es (Err Memory) old new =
+    SameClients old new × (new.clock ≡ now) × TakenInPart displays now k.channel (asked (past_of es)) es new

@@ -10,7 +10,7 @@ use Rattle.dispatch_history.specs.KeySent.{repeat_due}
 use Rattle.dispatch_history.specs.Legal.{answered}
 use Rattle.dispatch_history.specs.Ordered.{extend}
 use Rattle.dispatch_history.specs.Reply.{reply_to}
-use Rattle.dispatcher.specs.Access.{is_waiting}
+use Rattle.dispatcher.specs.Access.{any_waits, is_waiting, next_repeat}
 use Rattle.live_input.specs.Standing.{LiveIs}
 use Rattle.live_input.specs.State.{LiveState}
 
@@ -55,6 +55,14 @@ sooner (Some t) (Some u) = Some (min t u)
 -- when the first channel is due to be reported unresponsive
 abbrev pub timeout : List Effect → Option ℕ
 timeout es = option_map (λ d. d.moment) (first_due es)
+
+-- something waits for memory: args to be handed in, or to be dispatched
+abbrev pub waits : List Effect → LiveState → Bool
+waits es s = is_waiting es || any_waits s.pending
+
+-- the first moment at which something is due: the clock while something waits, otherwise the first timeout or repeat
+abbrev pub due_of : List Effect → LiveState → Option ℕ
+due_of es s = if waits es s then Some s.clock else sooner (timeout es) (next_repeat es)
 
 -- a tick at the moment of a timeout, if that is not later than now
 abbrev pub tick_by : (now : ℕ) → Option ℕ → Option Call

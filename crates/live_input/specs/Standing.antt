@@ -3,6 +3,7 @@ use Rattle.std.specs.Prelude.{ℕ, ◌≡◌, ◌≤◌, ◌<◌, Bool, true, fa
 use Rattle.input_types.specs.declared.message.Message.{Message}
 use Rattle.input_types.specs.StreamRule.{stream_state, unsent}
 use Rattle.window_snapshot.specs.declared.window.Window.{Window}
+use Rattle.window_snapshot.specs.Mask.{mask_has}
 use Rattle.window_snapshot.specs.Named.{is_named}
 use Rattle.dispatch_calls.specs.declared.call.Call.{Call}
 use Rattle.dispatch_calls.specs.declared.call.Call.TheVariants.{Open, Windows, FocusOn, Receive, Finish, Remove}
@@ -48,6 +49,10 @@ pub record Begins (es : List Effect) (c before : ℕ) : Type 0 where
 abbrev pub AreOfHeld : List Window → List Seat → Type 0
 AreOfHeld ws seats = (c : ℕ) → is_named ws c ≡ true → IsHeld c seats
 
+-- a mask of channels on which clients are open
+abbrev pub IsMaskOfHeld : ℕ → List Seat → Type 0
+IsMaskOfHeld mask seats = (c : ℕ) → mask_has mask c ≡ true → IsHeld c seats
+
 -- no channel, or one on which a client is open
 abbrev pub IsOfSome : Option ℕ → List Seat → Type 0
 IsOfSome None seats = Unit {0}
@@ -75,11 +80,8 @@ pub record LiveIs (displays : List ℕ) (es : List Effect) (s : LiveState) : Typ
   pub requests_are : AreRequested (past_of es) s.requested s.asked
   pub seats_are : AreSeated (past_of es) s.seats
   pub tenants_are : AreTenants es s.seats
+  pub named_are : IsMaskOfHeld s.named s.seats
   pub release : AreReleased es s.dispatcher
-
--- it stands for some history
-abbrev pub IsLive : List ℕ → LiveState → Type 0
-IsLive displays s = (es : List Effect) × LiveIs displays es s
 
 -- a call that shows no windows, requests no focus, and neither opens nor removes a channel
 abbrev pub is_plain : Call → Bool

@@ -1,18 +1,19 @@
 -- A live service as contracts see it.
-use Rattle.std.specs.Prelude.{ℕ, List, Option}
+use Rattle.std.specs.Prelude.{ℕ, max, List, Option}
 use Rattle.input_types.specs.declared.message.Args.{Args}
 use Rattle.device_reader.specs.Reading.{Reading}
 use Rattle.window_snapshot.specs.declared.window.Window.{Window}
 use Rattle.dispatcher.specs.Dispatching.{Dispatching}
 use Rattle.live_input.specs.declared.client.Seat.{Seat}
 
--- how long each client may leave a message unfinished; the dispatcher; which client is open on which channel, and how
+-- how long each client may leave a message unfinished; the latest moment that was handed in; the dispatcher; which client is open on which channel, and how
 -- many clients were opened so far; the last windows; for each display the channel for which the focus was last
--- requested, and the display of the last request; the channels that were reported unresponsive and not yet returned
--- to the caller; the readers of the plugged-in devices, starting with device 1; what devices delivered that must
+-- requested, and the display of the last request; the channels whose clients were reported unresponsive and not yet
+-- returned to the caller; the readers of the plugged-in devices, starting with device 1; what devices delivered that must
 -- still be handed in, oldest first
 pub record LiveState : Type 0 where
   pub limit : ℕ
+  pub clock : ℕ
   pub dispatcher : Dispatching
   pub seats : List Seat
   pub opened : ℕ
@@ -22,3 +23,7 @@ pub record LiveState : Type 0 where
   pub named : ℕ
   pub devices : List (Option Reading)
   pub pending : List Args
+
+-- the latest moment that was handed in, with this one
+abbrev pub latest : ℕ → LiveState → ℕ
+latest now s = max now s.clock

@@ -8,13 +8,12 @@ use Rattle.window_snapshot.specs.declared.window.Window.{Window}
 use Rattle.window_snapshot.specs.Snapshot.{snapshot_of}
 use Rattle.dispatch_calls.specs.declared.call.Call.TheVariants.{Windows}
 use Rattle.dispatch_history.specs.Effect.{Effect}
-use Rattle.dispatch_history.specs.Legal.{answered}
 use Rattle.live_input.specs.declared.client.Seat.{Seat}
 use Rattle.live_input.specs.declared.refused.WindowsRefused.{WindowsRefused}
 use Rattle.live_input.specs.declared.refused.WindowsRefused.TheVariants.{NotOpen, TooMany, Twice, Memory}
 use Rattle.live_input.specs.declared.windows.ClientWindow.{ClientWindow}
 use Rattle.live_input.specs.Seats.{is_open}
-use Rattle.live_input.specs.Standing.{LiveIs}
+use Rattle.live_input.specs.Answers.{Makes}
 use Rattle.live_input.specs.State.{LiveState}
 
 -- the window by its channel
@@ -40,13 +39,13 @@ IsSnapshotOf ws (Ok shown) = (shown ≡ ws) × (snapshot_of ws ≡ Ok ws)
 IsSnapshotOf ws (Err snapshot.Memory) = Unit {0}
 IsSnapshotOf ws (Err error) = snapshot_of ws ≡ Err error
 
--- After windows are shown, the service stands for the history with that call. Windows of a client that is not open,
+-- After windows are shown, that call was made. Windows of a client that is not open,
 -- too many windows, and two windows of one client are refused, in this order. A refusal changes nothing.
 abbrev pub WindowsGo :
     List ℕ → (now : ℕ) → List ClientWindow → List Effect → Result (Unit {0}) WindowsRefused → (old new : LiveState) → Type 0
 WindowsGo displays now ws es (Ok done) old new =
     (first_stale old.seats ws ≡ None) × (snapshot_of (map window_of ws) ≡ Ok (map window_of ws))
-    × LiveIs displays (answered displays (Windows now (map window_of ws)) es) new
+    × Makes displays es (Windows now (map window_of ws)) new
 WindowsGo displays now ws es (Err (NotOpen place)) old new = (first_stale old.seats ws ≡ Some place) × (new ≡ old)
 WindowsGo displays now ws es (Err TooMany) old new =
     (first_stale old.seats ws ≡ None) × (snapshot_of (map window_of ws) ≡ Err snapshot.TooMany) × (new ≡ old)

@@ -2,6 +2,7 @@
 ghost use Rattle.std.specs.Prelude.{◌≡◌, ℕ, ◌+◌, ◌≤◌, ◌<◌, slice_index_or, ◌↔◌, true, false, not, List, length, Option, None, Some, Ok, Err, IfOk, OnOk, OnErr, if◌then◌else◌};
 ghost use Rattle.std.specs.List.{position};
 ghost use Rattle.dispatch_history.specs.Effect.{Effect, past_of, stream};
+ghost use Rattle.dispatch_history.specs.Focus.{asked};
 ghost use Rattle.dispatch_history.specs.History.{opened};
 ghost use Rattle.dispatcher.specs.Access.{is_opened};
 ghost use Rattle.focus_resolver.specs.Resolver.{is_at};
@@ -13,7 +14,9 @@ ghost use Rattle.live_input.specs.Opening.{Opens, OpensOn, CloseGoes, IsNext, op
 ghost use Rattle.live_input.specs.Answers.{SameClients};
 ghost use Rattle.live_input.specs.Closing.{hidden, forgotten};
 ghost use Rattle.live_input.specs.Settling.{Settles, next_left};
-ghost use Rattle.live_input.specs.Standing.{LiveIs, IsLive};
+ghost use Rattle.live_input.specs.Standing.{LiveIs};
+ghost use Rattle.live_input.specs.State.{latest};
+ghost use Rattle.live_input.specs.Taking.{TakenInPart};
 
 use crate::client::{Client, Seat, client_of, is_open, occupy, seat_of, vacate};
 use crate::live::Live;
@@ -22,7 +25,7 @@ use dispatch_calls::Call;
 use dispatcher::Dispatcher;
 use input_types::Moment;
 use std::alloc::AllocError;
-use window_snapshot::is_channel;
+use window_snapshot::{is_channel, mask_without};
 
 impl Live {
     /// Whether a client is open.
@@ -102,16 +105,18 @@ impl Live {
         ensures stale { is_open self.old.seats client ≡ false
             → (result ≡ Err CloseRefused.NotOpen) × (self.new ≡ self.old) }
         ensures after { (ds : List ℕ) (es : List Effect) → LiveIs ds es self.old → is_open self.old.seats client ≡ true
-            → CloseGoes ds now client es result self.old self.new }
-        ensures named { self.new.named ≡ self.old.named }
+            → CloseGoes ds (latest now self.old) client es result self.old self.new }
+        ensures named { OnErr result (self.new.named ≡ self.old.named) }
     {
         if !is_open(&self.seats, client) {
             return Err(CloseRefused::NotOpen);
         }
+        let now = self.raise(now);
         let channel = client.channel;
         match self.empty(now, channel) {
             Ok(()) => {
                 vacate(&mut self.seats, channel);
+                self.named = mask_without(self.named, channel);
                 Ok(())
             }
             Err(_) => Err(CloseRefused::Memory),
@@ -126,10 +131,11 @@ impl Live {
         ensures hidden { OnOk result (is_named self.new.windows channel ≡ false) }
         ensures unasked { (ds : List ℕ) (es : List Effect) → LiveIs ds es self.old
             → OnOk result ((y : ℕ) → y < 4 → is_at (slice_index_or self.new.requested y None) channel ≡ false) }
-        ensures stands { (ds : List ℕ) (es : List Effect) → LiveIs ds es self.old → IsHeld channel self.old.seats
-            → IsLive ds self.new }
+        ensures part { (ds : List ℕ) (es : List Effect) → LiveIs ds es self.old → IsHeld channel self.old.seats
+            → TakenInPart ds now channel (asked (past_of es)) es self.new }
         ensures clients { SameClients self.old self.new }
         ensures named { self.new.named ≡ self.old.named }
+        ensures clock { self.new.clock ≡ self.old.clock }
     {
         self.hide(now, channel)?;
         self.forget(now, channel)?;

@@ -4,7 +4,7 @@ ghost use Rattle.std.specs.List.{list_any};
 ghost use Rattle.focus_resolver.specs.Resolver.{is_at};
 ghost use Rattle.window_snapshot.specs.Named.{is_named};
 ghost use Rattle.dispatch_history.specs.Effect.{Effect, past_of};
-ghost use Rattle.dispatch_history.specs.Focus.{requested};
+ghost use Rattle.dispatch_history.specs.Focus.{asked, requested};
 ghost use Rattle.dispatch_history.specs.Delivery.{oldest};
 ghost use Rattle.dispatcher.specs.Access.{is_opened};
 ghost use Rattle.dispatcher.specs.Dispatching.{IsAfter};
@@ -12,7 +12,8 @@ ghost use Rattle.live_input.specs.Answers.{SameClients};
 ghost use Rattle.live_input.specs.Closing.{without, hidden, forgotten_on, forgotten};
 ghost use Rattle.live_input.specs.Seats.{IsHeld};
 ghost use Rattle.live_input.specs.Settling.{Reaches, Settles, next_left};
-ghost use Rattle.live_input.specs.Standing.{LiveIs, IsLive};
+ghost use Rattle.live_input.specs.Standing.{LiveIs};
+ghost use Rattle.live_input.specs.Taking.{TakenInPart};
 
 use crate::live::Live;
 use crate::settling::left_call;
@@ -30,6 +31,7 @@ impl Live {
         ensures hidden { OnOk result (is_named self.new.windows channel ≡ false) }
         ensures clients { SameClients self.old self.new }
         ensures named { self.new.named ≡ self.old.named }
+        ensures clock { self.new.clock ≡ self.old.clock }
         ensures err { OnErr result (self.new ≡ self.old) }
     {
         if !has_window(self.windows.windows(), channel) {
@@ -47,6 +49,7 @@ impl Live {
         ensures clients { SameClients self.old self.new }
         ensures windows { self.new.windows ≡ self.old.windows }
         ensures named { self.new.named ≡ self.old.named }
+        ensures clock { self.new.clock ≡ self.old.clock }
         ensures err { OnErr result (self.new ≡ self.old) }
     {
         if is_at(self.requested_on(display), channel) {
@@ -61,10 +64,12 @@ impl Live {
     pub(crate) fn forget(&mut self, now: Moment, channel: u32) -> Result<(), AllocError>
         ensures after { (ds : List ℕ) (es : List Effect) → LiveIs ds es self.old
             → OnOk result (LiveIs ds (forgotten ds now channel es) self.new) }
-        ensures stands { (ds : List ℕ) (es : List Effect) → LiveIs ds es self.old → IsLive ds self.new }
+        ensures part { (ds : List ℕ) (es : List Effect) → LiveIs ds es self.old
+            → TakenInPart ds now channel (asked (past_of es)) es self.new }
         ensures clients { SameClients self.old self.new }
         ensures windows { self.new.windows ≡ self.old.windows }
         ensures named { self.new.named ≡ self.old.named }
+        ensures clock { self.new.clock ≡ self.old.clock }
     {
         if !is_requested(&self.requested, channel) {
             return Ok(());
@@ -95,6 +100,7 @@ impl Live {
         ensures windows { self.new.windows ≡ self.old.windows }
         ensures requests { self.new.requested ≡ self.old.requested }
         ensures named { self.new.named ≡ self.old.named }
+        ensures clock { self.new.clock ≡ self.old.clock }
     {
         for _ in 0..u64::MAX {
             let Some(call) = next_left(&self.dispatcher, now, channel) else {

@@ -5,18 +5,19 @@ ghost use Rattle.dispatch_history.specs.Delivery.{is_named_by};
 ghost use Rattle.dispatch_history.specs.Effect.{Effect};
 ghost use Rattle.dispatch_history.specs.Legal.{answered};
 ghost use Rattle.dispatch_history.specs.Reply.{reply_to};
-ghost use Rattle.dispatcher.specs.Access.{next_repeat};
+ghost use Rattle.dispatcher.specs.Access.{any_waits};
 ghost use Rattle.window_snapshot.specs.Mask.{mask_has};
 ghost use Rattle.live_input.specs.Answers.{SameClients, SameSeats};
 ghost use Rattle.live_input.specs.Giving.{HandedInPart, notified};
-ghost use Rattle.live_input.specs.Settling.{Reaches, Settles, next_waiting, next_due, sooner, timeout};
+ghost use Rattle.live_input.specs.Settling.{Reaches, Settles, due_of, next_waiting, next_due};
 ghost use Rattle.live_input.specs.Advancing.{Advances, Advanced};
-ghost use Rattle.live_input.specs.Standing.{IsOfHeld, LiveIs, is_plain};
+ghost use Rattle.live_input.specs.Standing.{IsMaskOfHeld, IsOfHeld, LiveIs, is_plain};
+ghost use Rattle.live_input.specs.State.{latest};
 
 use crate::live::Live;
 use crate::settling::{next_due, next_waiting, sooner, timeout};
 use dispatch_calls::{Call, Reply};
-use input_types::Moment;
+use input_types::{Args, Moment};
 use std::alloc::AllocError;
 
 impl Live {
@@ -28,6 +29,7 @@ impl Live {
             → OnOk result (Settles ds (next_waiting now) es self.new) }
         ensures clients { SameClients self.old self.new }
         ensures named { self.new.named ≡ self.old.named }
+        ensures clock { self.new.clock ≡ self.old.clock }
     {
         for _ in 0..u64::MAX {
             let Some(call) = next_waiting(&self.dispatcher, now) else {
@@ -39,27 +41,36 @@ impl Live {
     }
 
     /// The first moment at which something is due: a client that leaves a message unfinished for too long, or the
-    /// repeat of a held key.
+    /// repeat of a held key. While something that devices delivered waits for memory, it is the clock.
     pub fn due(&self) -> Option<u64>
-        ensures { (ds : List ℕ) (es : List Effect) → LiveIs ds es self.now
-            → result ≡ sooner (timeout es) (next_repeat es) }
+        ensures { (ds : List ℕ) (es : List Effect) → LiveIs ds es self.now → result ≡ due_of es self.now }
     {
-        sooner(timeout(&self.dispatcher), self.dispatcher.repeat_due())
+        if waits(self.dispatcher.is_waiting(), &self.pending) {
+            Some(self.clock.get())
+        } else {
+            sooner(timeout(&self.dispatcher), self.dispatcher.repeat_due())
+        }
     }
 
     /// Runs everything that is due up to now, one call after another, each at its moment, after handing in what
-    /// devices delivered and still waits for that. Returns the mask of the channels that were reported unresponsive,
-    /// by this call and by those before it that ran out of memory.
+    /// devices delivered and still waits for that. Returns the mask of the channels whose clients were reported
+    /// unresponsive, by this call and by those before it that ran out of memory, and are still open.
     pub fn advance(&mut self, now: Moment) -> Result<u64, AllocError>
         ensures ok { (ds : List ℕ) (es : List Effect) → LiveIs ds es self.old
-            → IfOk result (λ mask. Advanced ds now (notified ds now es self.old.pending) mask self.old self.new) }
+            → IfOk result (λ mask. Advanced ds (latest now self.old)
+            (notified ds (latest now self.old) es self.old.pending) mask self.old self.new) }
+        ensures reported { (ds : List ℕ) (es : List Effect) → LiveIs ds es self.old
+            → IfOk result (λ mask. IsMaskOfHeld mask self.old.seats) }
         ensures none { OnOk result (self.new.pending ≡ []) }
         ensures err { (ds : List ℕ) (es : List Effect) → LiveIs ds es self.old
-            → OnErr result (HandedInPart ds now es self.old.pending self.new
-            ⊎ Advances ds now (notified ds now es self.old.pending) self.old self.new) }
+            → OnErr result (HandedInPart ds (latest now self.old) es self.old.pending self.new
+            ⊎ Advances ds (latest now self.old) (notified ds (latest now self.old) es self.old.pending)
+            self.old self.new) }
+        ensures clock { self.new.clock ≡ latest now self.old }
         ensures devices { self.new.devices ≡ self.old.devices }
         ensures seats { SameSeats self.old self.new }
     {
+        let now = self.raise(now);
         match self.hand_in(now) {
             Ok(_) => self.catch_up(now),
             Err(error) => Err(error),
@@ -70,9 +81,12 @@ impl Live {
     fn catch_up(&mut self, now: Moment) -> Result<u64, AllocError>
         ensures ok { (ds : List ℕ) (es : List Effect) → LiveIs ds es self.old
             → IfOk result (λ mask. Advanced ds now es mask self.old self.new) }
+        ensures reported { (ds : List ℕ) (es : List Effect) → LiveIs ds es self.old
+            → IfOk result (λ mask. IsMaskOfHeld mask self.old.seats) }
         ensures err { (ds : List ℕ) (es : List Effect) → LiveIs ds es self.old
             → OnErr result (Advances ds now es self.old self.new) }
         ensures clients { SameClients self.old self.new }
+        ensures clock { self.new.clock ≡ self.old.clock }
     {
         for _ in 0..u64::MAX {
             let Some(call) = next_due(&self.dispatcher, now) else {
@@ -93,6 +107,7 @@ impl Live {
             → OnOk result ((c : ℕ) → mask_has self.new.named c
             ≡ (mask_has self.old.named c || is_named_by call.now (reply_to es call.now) c)) }
         ensures clients { SameClients self.old self.new }
+        ensures clock { self.new.clock ≡ self.old.clock }
         ensures err { OnErr result (self.new ≡ self.old) }
     {
         match self.apply(call) {
@@ -103,6 +118,14 @@ impl Live {
             Err(error) => Err(error),
         }
     }
+}
+
+/// Whether something waits for memory: args that are accepted, or some that must still be handed in.
+#[tactic(auto, using(crate::proofs::Handing::some_wait))]
+fn waits(is_waiting: bool, pending: &[Args]) -> bool
+    ensures { result ≡ (is_waiting || any_waits pending.now) }
+{
+    is_waiting || !pending.is_empty()
 }
 
 /// The mask of the channels that a call reported unresponsive.

@@ -6,11 +6,12 @@ ghost use Rattle.dispatch_history.specs.Legal.{answered};
 ghost use Rattle.dispatch_history.specs.Reply.{reply_to};
 ghost use Rattle.input_types.specs.DeviceRule.{device_of};
 ghost use Rattle.raw_events.specs.declared.event.RawEvent.{RawEvent as Event};
-ghost use Rattle.device_reader.specs.Cooked.{DevicePlan, args_of};
+ghost use Rattle.device_reader.specs.Cooked.{DevicePlan};
 ghost use Rattle.device_table.specs.Table.{StandsAt, is_there, reader_of};
 ghost use Rattle.live_input.specs.Answers.{SameClients, SameSeats, is_taken};
-ghost use Rattle.live_input.specs.Giving.{Delivers, Gives, HandedInPart, all_taken, notified};
+ghost use Rattle.live_input.specs.Giving.{Delivers, Gives, GivesEvent, HandedInPart, all_taken, notified};
 ghost use Rattle.live_input.specs.Standing.{LiveIs};
+ghost use Rattle.live_input.specs.State.{latest};
 
 use crate::live::Live;
 use crate::refused::ArgsRefused;
@@ -40,11 +41,9 @@ impl Live {
             → (result ≡ Err ArgsRefused.NoDevice) × (self.new ≡ self.old) }
         ensures after { (ds : List ℕ) (es : List Effect) (plan : DevicePlan) (past : List Event) → LiveIs ds es self.old
             → StandsAt plan past device self.old.devices
-            → Gives ds now es
-            (args_of plan past (record { device = device; moment = now; kind = kind; code = code; value = value }))
-            (StandsAt plan
-            (record { device = device; moment = now; kind = kind; code = code; value = value } ∷ past) device
-            self.new.devices) result self.old self.new }
+            → GivesEvent ds (latest now self.old) es plan past
+            (record { device = device; moment = latest now self.old; kind = kind; code = code; value = value })
+            result self.old self.new }
         ensures others { (d : ℕ) → 1 ≤ d → (d == device) ≡ false
             → reader_of self.new.devices d ≡ reader_of self.old.devices d }
         ensures seats { SameSeats self.old self.new }
@@ -53,9 +52,13 @@ impl Live {
         if !self.devices.is_there(device) {
             return Err(ArgsRefused::NoDevice);
         }
+        let now = now.later(self.clock);
         let event = event_of(now, device, kind, code, value);
         match self.devices.take_into(event, &mut self.pending) {
-            Ok(()) => self.deliver(now),
+            Ok(()) => {
+                self.clock = now;
+                self.deliver(now)
+            }
             Err(_) => Err(ArgsRefused::Memory),
         }
     }
@@ -66,7 +69,8 @@ impl Live {
             → (result ≡ Err ArgsRefused.NoDevice) × (self.new ≡ self.old) }
         ensures after { (ds : List ℕ) (es : List Effect) → LiveIs ds es self.old
             → is_there self.old.devices (device_of args) ≡ true
-            → Gives ds now es (args ∷ []) (self.new.devices ≡ self.old.devices) result self.old self.new }
+            → Gives ds (latest now self.old) es (args ∷ []) (self.new.devices ≡ self.old.devices)
+            result self.old self.new }
         ensures devices { self.new.devices ≡ self.old.devices }
         ensures seats { SameSeats self.old self.new }
         ensures named { self.new.named ≡ self.old.named }
@@ -74,8 +78,12 @@ impl Live {
         if !self.devices.is_there(device_of(&args)) {
             return Err(ArgsRefused::NoDevice);
         }
+        let now = now.later(self.clock);
         match self.pending.push(args) {
-            Ok(()) => self.deliver(now),
+            Ok(()) => {
+                self.clock = now;
+                self.deliver(now)
+            }
             Err(_) => Err(ArgsRefused::Memory),
         }
     }
@@ -87,6 +95,7 @@ impl Live {
         ensures devices { self.new.devices ≡ self.old.devices }
         ensures seats { SameSeats self.old self.new }
         ensures named { self.new.named ≡ self.old.named }
+        ensures clock { self.new.clock ≡ self.old.clock }
     {
         match self.hand_in(now) {
             Ok(fits) => match self.dispatch_waiting(now) {
@@ -115,6 +124,7 @@ impl Live {
         ensures devices { self.new.devices ≡ self.old.devices }
         ensures seats { SameSeats self.old self.new }
         ensures named { self.new.named ≡ self.old.named }
+        ensures clock { self.new.clock ≡ self.old.clock }
     {
         let mut fits = true;
         for _ in 0..u64::MAX {
@@ -136,6 +146,7 @@ impl Live {
             → IfOk result (λ fits. fits ≡ is_taken (reply_to es (Notify now args))) }
         ensures clients { SameClients self.old self.new }
         ensures named { self.new.named ≡ self.old.named }
+        ensures clock { self.new.clock ≡ self.old.clock }
         ensures err { OnErr result (self.new ≡ self.old) }
     {
         match self.apply(&Call::Notify { now, args }) {

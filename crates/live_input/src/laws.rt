@@ -1,5 +1,5 @@
 //! Proved facts about channels and their clients. Each function has the laws as its clauses, and does nothing.
-ghost use Rattle.live_input.specs.Laws.{SilenceLaw, UnsentLaw, AloneLaw, OwnLaw, OwnNumbersLaw, NextLaw, VacantLaw, ClosedLaw, KeptLaw, AnrsLaw};
+ghost use Rattle.live_input.specs.Laws.{SilenceLaw, UnsentLaw, AloneLaw, OwnLaw, OwnNumbersLaw, NextLaw, VacantLaw, ClosedLaw, KeptLaw, AnrsLaw, LaterLaw, DoneLaw};
 
 /// A channel whose window is not shown is sent nothing more.
 pub fn silence()
@@ -28,4 +28,11 @@ pub fn memory()
     ensures messages { KeptLaw }
     ensures anrs { AnrsLaw }
     ensures vacant { VacantLaw }
+{}
+
+/// What holds when nothing is left to do: after `advance` what is due is later, and after `close` all messages of the
+/// channel are received and finished.
+pub fn settling()
+    ensures later { LaterLaw }
+    ensures done { DoneLaw }
 {}

@@ -1,12 +1,13 @@
 //! The service.
 ghost use Rattle.std.specs.Prelude.{◌≡◌, ℕ, true, [], List, replicate, None, IfOk, OnOk, OnErr};
-ghost use Rattle.dispatch_history.specs.Effect.{Effect, past_of};
-ghost use Rattle.dispatch_history.specs.History.{clock};
+ghost use Rattle.dispatch_history.specs.Effect.{Effect};
 ghost use Rattle.dispatch_history.specs.Legal.{answered};
 ghost use Rattle.dispatch_history.specs.Reply.{reply_to};
+ghost use Rattle.dispatcher.specs.Answered.{AnswersCalm};
 ghost use Rattle.live_input.specs.Answers.{SameClients};
 ghost use Rattle.live_input.specs.Seats.{vacant};
 ghost use Rattle.live_input.specs.Standing.{IsOfHeld, LiveIs, is_plain};
+ghost use Rattle.live_input.specs.State.{latest};
 
 use crate::client::Seat;
 use crate::releasing::release_after;
@@ -26,6 +27,8 @@ use window_snapshot::Snapshot;
 pub struct Live {
     pub(crate) alloc: Global,
     pub(crate) limit: Limit,
+    /// The latest moment that was handed in.
+    pub(crate) clock: Moment,
     pub(crate) dispatcher: Dispatcher,
     /// Starting with channel 1.
     pub(crate) seats: [Seat; 64],
@@ -35,7 +38,7 @@ pub struct Live {
     /// For which channel the focus of each display was last requested, and the display of the last request.
     pub(crate) requested: [Option<u32>; 4],
     pub(crate) asked: DisplayId,
-    /// The channels that were reported unresponsive by an `advance` that ran out of memory.
+    /// The channels whose clients were reported unresponsive by an `advance` that ran out of memory.
     pub(crate) named: u64,
     pub(crate) devices: DeviceTable,
     /// What devices delivered that must still be handed in, oldest first. It is empty unless memory ran out.
@@ -49,6 +52,7 @@ impl Model for Live {
 
     ghost view = { λ l. record {
       limit = l.limit;
+      clock = l.clock;
       dispatcher = l.dispatcher;
       seats = l.seats;
       opened = l.opened;
@@ -67,6 +71,7 @@ impl Live {
     pub fn new(alloc: Global, limit: Limit, displays: &Displays) -> Result<Live, AllocError>
         ensures start { IfOk result (λ l. LiveIs displays.now [] l) }
         ensures limit { IfOk result (λ l. l.limit ≡ limit) }
+        ensures clock { IfOk result (λ l. l.clock ≡ 0) }
         ensures seats { IfOk result (λ l. l.seats ≡ replicate 64 vacant) }
         ensures opened { IfOk result (λ l. l.opened ≡ 0) }
         ensures named { IfOk result (λ l. l.named ≡ 0) }
@@ -77,6 +82,7 @@ impl Live {
         Ok(Live {
             alloc,
             limit,
+            clock: Moment::zero(),
             dispatcher,
             seats: vacant(),
             opened: 0,
@@ -89,11 +95,22 @@ impl Live {
         })
     }
 
-    /// The clock: the latest moment of any call.
+    /// The clock: the latest moment that was handed in. Each call is made at it, even if an earlier moment is handed in
+    /// later. Calls that are refused and change nothing leave it.
     pub fn clock(&self) -> Moment
-        ensures { (ds : List ℕ) (es : List Effect) → LiveIs ds es self.now → result ≡ clock (past_of es) }
+        ensures { result ≡ self.now.clock }
     {
-        self.dispatcher.clock()
+        self.clock
+    }
+
+    /// Raises the clock to a moment that is later. Returns the clock.
+    pub(crate) fn raise(&mut self, now: Moment) -> Moment
+        ensures latest { result ≡ latest now self.old }
+        ensures rest { self.new ≡ record self.old { clock = latest now self.old } }
+    {
+        let now = now.later(self.clock);
+        self.clock = now;
+        now
     }
 
     /// Makes one call of the dispatcher, and releases what it received and what a tick recorded. If memory runs out,
@@ -105,6 +122,7 @@ impl Live {
             → IfOk result (λ answer. answer ≡ reply_to es call.now) }
         ensures rest { self.new ≡ record self.old { dispatcher = self.new.dispatcher } }
         ensures err { OnErr result (self.new ≡ self.old) }
+        ensures calm { AnswersCalm call.now self.old.dispatcher result }
     {
         match self.dispatcher.apply(call) {
             Ok(reply) => {
@@ -123,6 +141,7 @@ impl Live {
         ensures windows { self.new.windows ≡ self.old.windows }
         ensures requests { self.new.requested ≡ self.old.requested }
         ensures named { self.new.named ≡ self.old.named }
+        ensures clock { self.new.clock ≡ self.old.clock }
         ensures err { OnErr result (self.new ≡ self.old) }
     {
         match self.apply(call) {

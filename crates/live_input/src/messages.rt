@@ -1,5 +1,5 @@
 //! What clients receive and finish.
-ghost use Rattle.std.specs.Prelude.{◌≡◌, ◌+◌, ◌&&◌, ℕ, true, false, List, Option, None, Ok, Err, IfOk, IfSome, OnOk, OnErr, is_some, if◌then◌else◌};
+ghost use Rattle.std.specs.Prelude.{◌≡◌, ◌+◌, ◌&&◌, ℕ, true, false, List, Option, None, Ok, Err, IfOk, IfSome, OnOk, OnErr, IsOk, is_some, if◌then◌else◌};
 ghost use Rattle.dispatch_calls.specs.declared.call.Call.TheVariants.{Receive, Finish, Pilfer};
 ghost use Rattle.dispatch_history.specs.Effect.{Effect, past_of};
 ghost use Rattle.dispatch_history.specs.History.{received};
@@ -7,10 +7,12 @@ ghost use Rattle.dispatch_history.specs.Legal.{answered};
 ghost use Rattle.dispatch_history.specs.Reply.{reply_to};
 ghost use Rattle.dispatcher.specs.Access.{gone, got};
 ghost use Rattle.dispatcher.specs.Dispatching.{StandsFor};
+ghost use Rattle.dispatcher.specs.Memory.{MayCount};
 ghost use Rattle.window_snapshot.specs.Mask.{mask_has, mask_with, is_channel};
 ghost use Rattle.live_input.specs.Answers.{SameClients, Finishes, Pilfers, handed, is_done, is_no_spy};
 ghost use Rattle.live_input.specs.Seats.{is_open, seat_of, number_of};
 ghost use Rattle.live_input.specs.Standing.{LiveIs};
+ghost use Rattle.live_input.specs.State.{latest};
 ghost use Rattle.live_input.specs.Outgoing.{taken};
 
 use crate::client::{Client, is_open, seat_of};
@@ -42,7 +44,9 @@ impl Live {
             ≡ received (past_of (answered ds (Receive client.channel) es)) client.channel) }
         ensures clients { SameClients self.old self.new }
         ensures named { self.new.named ≡ self.old.named }
+        ensures clock { self.new.clock ≡ self.old.clock }
         ensures err { OnErr result (self.new ≡ self.old) }
+        ensures calm { (ds : List ℕ) (es : List Effect) → LiveIs ds es self.old → MayCount es → IsOk result }
     {
         if !is_open(&self.seats, client) {
             return Ok(None);
@@ -61,18 +65,22 @@ impl Live {
             → (result ≡ Err FinishRefused.NotOpen) × (self.new ≡ self.old) }
         ensures after { (ds : List ℕ) (es : List Effect) → LiveIs ds es self.old
             → is_open self.old.seats client ≡ true → Finishes ds es
-            (Finish now client.channel (number_of (seat_of self.old.seats client.channel) seq))
+            (Finish (latest now self.old) client.channel (number_of (seat_of self.old.seats client.channel) seq))
             result self.old self.new }
         ensures clients { SameClients self.old self.new }
         ensures named { self.new.named ≡ self.old.named }
+        ensures calm { (ds : List ℕ) (es : List Effect) → LiveIs ds es self.old → MayCount es
+            → result ≡ Err FinishRefused.Memory → ⊥ }
     {
         if !is_open(&self.seats, client) {
             return Err(FinishRefused::NotOpen);
         }
+        let now = now.later(self.clock);
         let channel = client.channel;
         let seq = seat_of(&self.seats, channel).number_of(seq);
         match self.apply(&Call::Finish { now, channel, seq }) {
             Ok(reply) => {
+                self.clock = now;
                 if is_done(&reply) {
                     Ok(())
                 } else {
@@ -93,13 +101,14 @@ impl Live {
         ensures stale { is_open self.old.seats client ≡ false
             → (result ≡ Err PilferRefused.NotOpen) × (self.new ≡ self.old) }
         ensures after { (ds : List ℕ) (es : List Effect) → LiveIs ds es self.old → is_open self.old.seats client ≡ true
-            → Pilfers ds es (Pilfer now client.channel device) result self.old self.new }
+            → Pilfers ds es (Pilfer (latest now self.old) client.channel device) result self.old self.new }
         ensures clients { SameClients self.old self.new }
         ensures named { self.new.named ≡ self.old.named }
     {
         if !is_open(&self.seats, client) {
             return Err(PilferRefused::NotOpen);
         }
+        let now = now.later(self.clock);
         let channel = client.channel;
         match self.apply(&Call::Pilfer {
             now,
@@ -107,6 +116,7 @@ impl Live {
             device,
         }) {
             Ok(reply) => {
+                self.clock = now;
                 if is_done(&reply) {
                     Ok(())
                 } else if is_no_spy(&reply) {

@@ -8,6 +8,7 @@ ghost use Rattle.live_input.specs.Answers.{SameSeats};
 ghost use Rattle.live_input.specs.Giving.{Gives};
 ghost use Rattle.live_input.specs.Plugging.{Adds, is_slots};
 ghost use Rattle.live_input.specs.Standing.{LiveIs};
+ghost use Rattle.live_input.specs.State.{latest};
 
 use crate::live::Live;
 use crate::refused::{AddRefused, ArgsRefused};
@@ -68,16 +69,18 @@ impl Live {
             → (result ≡ Err ArgsRefused.NoDevice) × (self.new ≡ self.old) }
         ensures after { (ds : List ℕ) (es : List Effect) → LiveIs ds es self.old
             → is_there self.old.devices device ≡ true
-            → Gives ds now es (Reset device ∷ []) (self.new.devices ≡ slice_set self.old.devices (device - 1) None)
-            result self.old self.new }
+            → Gives ds (latest now self.old) es (Reset device ∷ [])
+            (self.new.devices ≡ slice_set self.old.devices (device - 1) None) result self.old self.new }
         ensures seats { SameSeats self.old self.new }
         ensures named { self.new.named ≡ self.old.named }
     {
         if !self.devices.is_there(device) {
             return Err(ArgsRefused::NoDevice);
         }
+        let now = now.later(self.clock);
         match self.pending.push(Args::Reset(device)) {
             Ok(()) => {
+                self.clock = now;
                 self.devices.remove(device);
                 self.deliver(now)
             }

@@ -14,7 +14,7 @@ pub enum OpenRefused {
 pub enum CloseRefused {
     /// It is not open, or no longer open. Nothing changed.
     NotOpen,
-    /// Out of memory. The client is still open, but may have lost its window and its focus requests.
+    /// Out of memory. The client is still open, but may have lost its window, its focus requests and messages.
     Memory,
 }
 

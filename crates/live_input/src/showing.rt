@@ -6,6 +6,7 @@ ghost use Rattle.dispatch_history.specs.Legal.{answered};
 ghost use Rattle.live_input.specs.Answers.{SameClients};
 ghost use Rattle.live_input.specs.Showing.{FocusGoes, may_ask, channel_of};
 ghost use Rattle.live_input.specs.Standing.{AreOfHeld, IsOfSome, LiveIs};
+ghost use Rattle.live_input.specs.State.{latest};
 
 use crate::client::{Client, Seat, is_open};
 use crate::live::Live;
@@ -24,6 +25,7 @@ impl Live {
         ensures clients { SameClients self.old self.new }
         ensures requests { (self.new.requested ≡ self.old.requested) × (self.new.asked ≡ self.old.asked) }
         ensures named { self.new.named ≡ self.old.named }
+        ensures clock { self.new.clock ≡ self.old.clock }
         ensures err { OnErr result (self.new ≡ self.old) }
     {
         match self.dispatcher.show(now, &snapshot) {
@@ -49,6 +51,7 @@ impl Live {
         ensures clients { SameClients self.old self.new }
         ensures windows { self.new.windows ≡ self.old.windows }
         ensures named { self.new.named ≡ self.old.named }
+        ensures clock { self.new.clock ≡ self.old.clock }
         ensures err { OnErr result (self.new ≡ self.old) }
     {
         match self.dispatcher.request(now, display, channel) {
@@ -69,7 +72,7 @@ impl Live {
         client: Option<Client>,
     ) -> Result<(), FocusRefused>
         ensures after { (ds : List ℕ) (es : List Effect) → LiveIs ds es self.old
-            → FocusGoes ds now display client es result self.old self.new }
+            → FocusGoes ds (latest now self.old) display client es result self.old self.new }
         ensures stale { may_ask self.old.seats client ≡ false
             → (result ≡ Err FocusRefused.NotOpen) × (self.new ≡ self.old) }
         ensures clients { SameClients self.old self.new }
@@ -78,8 +81,12 @@ impl Live {
         if !may_ask(&self.seats, client) {
             return Err(FocusRefused::NotOpen);
         }
+        let now = now.later(self.clock);
         match self.request(now, display, channel_of(client)) {
-            Ok(()) => Ok(()),
+            Ok(()) => {
+                self.clock = now;
+                Ok(())
+            }
             Err(_) => Err(FocusRefused::Memory),
         }
     }

@@ -4,6 +4,7 @@ ghost use Rattle.dispatch_history.specs.Effect.{Effect};
 ghost use Rattle.live_input.specs.Answers.{SameClients};
 ghost use Rattle.live_input.specs.Seats.{is_open};
 ghost use Rattle.live_input.specs.Standing.{LiveIs};
+ghost use Rattle.live_input.specs.State.{latest};
 ghost use Rattle.live_input.specs.Windows.{first_stale, window_of, IsSnapshotOf, WindowsGo};
 
 use crate::client::{Client, Seat, is_open};
@@ -58,16 +59,20 @@ impl Live {
     /// reason.
     pub fn windows(&mut self, now: Moment, windows: Vec<ClientWindow>) -> Result<(), WindowsRefused>
         ensures after { (ds : List ℕ) (es : List Effect) → LiveIs ds es self.old
-            → WindowsGo ds now windows.items es result self.old self.new }
+            → WindowsGo ds (latest now self.old) windows.items es result self.old self.new }
         ensures clients { SameClients self.old self.new }
         ensures named { self.new.named ≡ self.old.named }
     {
         if let Some(place) = first_stale(&self.seats, &windows) {
             return Err(WindowsRefused::NotOpen { place });
         }
+        let now = now.later(self.clock);
         match snapshot_of(self.alloc, windows) {
             Ok(snapshot) => match self.show(now, snapshot) {
-                Ok(()) => Ok(()),
+                Ok(()) => {
+                    self.clock = now;
+                    Ok(())
+                }
                 Err(_) => Err(WindowsRefused::Memory),
             },
             Err(SnapshotError::TooMany) => Err(WindowsRefused::TooMany),

@@ -6,7 +6,6 @@ use Rattle.routing_rules.specs.Pairs.{has}
 use Rattle.window_snapshot.specs.Mask.{is_channel}
 use Rattle.dispatch_history.specs.Effect.{Effect, past_of}
 use Rattle.dispatch_history.specs.Focus.{focus, key_target}
-use Rattle.dispatch_history.specs.History.{clock}
 use Rattle.dispatch_history.specs.Step.{marks}
 use Rattle.live_input.specs.declared.client.Client.{Client}
 use Rattle.live_input.specs.Asking.{client_of_some, responds}
@@ -49,6 +48,6 @@ pub record Holds (s : LiveState) (client : Client) (device ids : ℕ) : Type 0 w
       (ds : List ℕ) (es : List Effect) → LiveIs ds es s → is_open s.seats client ≡ true
       → (i : ℕ) → is_in i ids ≡ has (held (marks es)) client.channel device i
 
--- the clock: the latest moment of any call
+-- the clock: the latest moment that was handed in
 abbrev pub IsClock : LiveState → ℕ → Type 0
-IsClock s t = (ds : List ℕ) (es : List Effect) → LiveIs ds es s → t ≡ clock (past_of es)
+IsClock s t = t ≡ s.clock

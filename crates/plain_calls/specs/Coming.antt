@@ -9,7 +9,7 @@ use Rattle.live_input.specs.declared.refused.OpenRefused.TheVariants.{Full}
 use Rattle.live_input.specs.Opening.{Opens, OpensOn, CloseGoes}
 use Rattle.live_input.specs.Seats.{is_open, is_full}
 use Rattle.live_input.specs.Standing.{LiveIs}
-use Rattle.live_input.specs.State.{LiveState}
+use Rattle.live_input.specs.State.{LiveState, latest}
 
 -- the result of an opening
 pub record Opened (old new : LiveState) (r : Result Client OpenRefused) : Type 0 where
@@ -22,5 +22,6 @@ pub record Opened (old new : LiveState) (r : Result Client OpenRefused) : Type 0
 pub record Closed (now : ℕ) (client : Client) (old new : LiveState) (r : Result (Unit {0}) CloseRefused) : Type 0 where
   pub stale : is_open old.seats client ≡ false → (r ≡ Err NotOpen) × (new ≡ old)
   pub after :
-      (ds : List ℕ) (es : List Effect) → LiveIs ds es old → is_open old.seats client ≡ true → CloseGoes ds now client es r old new
-  pub named : new.named ≡ old.named
+      (ds : List ℕ) (es : List Effect) → LiveIs ds es old → is_open old.seats client ≡ true
+      → CloseGoes ds (latest now old) client es r old new
+  pub named : OnErr r (new.named ≡ old.named)

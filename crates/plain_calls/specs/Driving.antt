@@ -7,35 +7,37 @@ use Rattle.input_types.specs.DeviceRule.{device_of}
 use Rattle.raw_events.specs.declared.event.RawEvent.{RawEvent}
 use Rattle.touch_mapper.specs.Cooking.{Cooking}
 use Rattle.key_layout.specs.Layout.{Codes}
-use Rattle.device_reader.specs.Cooked.{DevicePlan, Touches, Keys, args_of}
+use Rattle.device_reader.specs.Cooked.{DevicePlan, Touches, Keys}
 use Rattle.device_table.specs.Table.{StandsAt, is_there, reader_of}
 use Rattle.dispatch_history.specs.Effect.{Effect}
-use Rattle.dispatcher.specs.Access.{next_repeat}
 use Rattle.live_input.specs.declared.refused.AddRefused.{AddRefused}
 use Rattle.live_input.specs.declared.refused.AddRefused.TheVariants.{BadSlots}
 use Rattle.live_input.specs.declared.refused.ArgsRefused.{ArgsRefused}
 use Rattle.live_input.specs.declared.refused.ArgsRefused.TheVariants.{NoDevice}
 use Rattle.live_input.specs.Advancing.{Advances, Advanced}
 use Rattle.live_input.specs.Answers.{SameSeats}
-use Rattle.live_input.specs.Giving.{Gives, HandedInPart, notified}
+use Rattle.live_input.specs.Giving.{Gives, GivesEvent, HandedInPart, notified}
 use Rattle.live_input.specs.Plugging.{Adds, is_slots}
-use Rattle.live_input.specs.Settling.{sooner, timeout}
-use Rattle.live_input.specs.Standing.{LiveIs}
-use Rattle.live_input.specs.State.{LiveState}
+use Rattle.live_input.specs.Settling.{due_of}
+use Rattle.live_input.specs.Standing.{IsMaskOfHeld, LiveIs}
+use Rattle.live_input.specs.State.{LiveState, latest}
 
 -- the first moment at which something is due
 abbrev pub IsDue : LiveState → Option ℕ → Type 0
-IsDue s r = (ds : List ℕ) (es : List Effect) → LiveIs ds es s → r ≡ sooner (timeout es) (next_repeat es)
+IsDue s r = (ds : List ℕ) (es : List Effect) → LiveIs ds es s → r ≡ due_of es s
 
 -- what is due up to a moment
 pub record CaughtUp (now : ℕ) (old new : LiveState) (r : Result ℕ AllocError) : Type 0 where
   pub ok :
       (ds : List ℕ) (es : List Effect) → LiveIs ds es old
-      → IfOk r (λ mask. Advanced ds now (notified ds now es old.pending) mask old new)
+      → IfOk r (λ mask. Advanced ds (latest now old) (notified ds (latest now old) es old.pending) mask old new)
+  pub reported : (ds : List ℕ) (es : List Effect) → LiveIs ds es old → IfOk r (λ mask. IsMaskOfHeld mask old.seats)
   pub none : OnOk r (new.pending ≡ [])
   pub err :
       (ds : List ℕ) (es : List Effect) → LiveIs ds es old
-      → OnErr r (HandedInPart ds now es old.pending new ⊎ Advances ds now (notified ds now es old.pending) old new)
+      → OnErr r (HandedInPart ds (latest now old) es old.pending new
+      ⊎ Advances ds (latest now old) (notified ds (latest now old) es old.pending) old new)
+  pub clock : new.clock ≡ latest now old
   pub devices : new.devices ≡ old.devices
   pub seats : SameSeats old new
 
@@ -47,13 +49,13 @@ OthersStay device old new = (d : ℕ) → 1 ≤ d → (d == device) ≡ false �
 abbrev pub event : (now device kind code : ℕ) → ℤ → RawEvent
 event now device kind code value = record { device = device; moment = now; kind = kind; code = code; value = value }
 
--- the result of an event of a device
-pub record Happened (now device : ℕ) (e : RawEvent) (old new : LiveState) (r : Result (Unit {0}) ArgsRefused) : Type 0 where
+-- the result of an event of a device with this type, code and value
+pub record Happened (now device kind code : ℕ) (value : ℤ) (old new : LiveState) (r : Result (Unit {0}) ArgsRefused) : Type 0 where
   pub none : is_there old.devices device ≡ false → (r ≡ Err NoDevice) × (new ≡ old)
   pub after :
       (ds : List ℕ) (es : List Effect) (plan : DevicePlan) (past : List RawEvent) → LiveIs ds es old
       → StandsAt plan past device old.devices
-      → Gives ds now es (args_of plan past e) (StandsAt plan (e ∷ past) device new.devices) r old new
+      → GivesEvent ds (latest now old) es plan past (event (latest now old) device kind code value) r old new
   pub others : OthersStay device old new
   pub seats : SameSeats old new
   pub named : new.named ≡ old.named
@@ -63,7 +65,7 @@ pub record HandedIn (now : ℕ) (args : Args) (old new : LiveState) (r : Result 
   pub none : is_there old.devices (device_of args) ≡ false → (r ≡ Err NoDevice) × (new ≡ old)
   pub after :
       (ds : List ℕ) (es : List Effect) → LiveIs ds es old → is_there old.devices (device_of args) ≡ true
-      → Gives ds now es (args ∷ []) (new.devices ≡ old.devices) r old new
+      → Gives ds (latest now old) es (args ∷ []) (new.devices ≡ old.devices) r old new
   pub devices : new.devices ≡ old.devices
   pub seats : SameSeats old new
   pub named : new.named ≡ old.named
@@ -73,7 +75,7 @@ pub record Removed (now device : ℕ) (old new : LiveState) (r : Result (Unit {0
   pub none : is_there old.devices device ≡ false → (r ≡ Err NoDevice) × (new ≡ old)
   pub after :
       (ds : List ℕ) (es : List Effect) → LiveIs ds es old → is_there old.devices device ≡ true
-      → Gives ds now es (Reset device ∷ []) (new.devices ≡ slice_set old.devices (device - 1) None) r old new
+      → Gives ds (latest now old) es (Reset device ∷ []) (new.devices ≡ slice_set old.devices (device - 1) None) r old new
   pub seats : SameSeats old new
   pub named : new.named ≡ old.named
 

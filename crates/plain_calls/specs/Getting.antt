@@ -1,5 +1,5 @@
 -- What clients receive and finish, in terms of the service.
-use Rattle.std.specs.Prelude.{◌≡◌, ◌+◌, ◌&&◌, ℕ, true, false, List, Option, None, Result, Ok, Err, IfOk, IfSome, OnOk, OnErr, is_some}
+use Rattle.std.specs.Prelude.{◌≡◌, ◌+◌, ◌&&◌, ℕ, true, false, List, Option, None, Result, Ok, Err, IfOk, IfSome, OnOk, OnErr, IsOk, is_some}
 use Rattle.std.specs.declared.alloc.AllocError.{AllocError}
 use Rattle.input_types.specs.declared.message.Message.{Message}
 use Rattle.window_snapshot.specs.Mask.{mask_has, is_channel}
@@ -9,6 +9,7 @@ use Rattle.dispatch_history.specs.History.{received}
 use Rattle.dispatch_history.specs.Legal.{answered}
 use Rattle.dispatch_history.specs.Reply.{reply_to}
 use Rattle.dispatcher.specs.Access.{gone, got}
+use Rattle.dispatcher.specs.Memory.{MayCount}
 use Rattle.live_input.specs.declared.client.Client.{Client}
 use Rattle.live_input.specs.declared.refused.FinishRefused.{FinishRefused}
 use Rattle.live_input.specs.declared.refused.FinishRefused.TheVariants as finish
@@ -17,7 +18,7 @@ use Rattle.live_input.specs.declared.refused.PilferRefused.TheVariants as pilfer
 use Rattle.live_input.specs.Answers.{SameClients, Finishes, Pilfers, handed}
 use Rattle.live_input.specs.Seats.{is_open, seat_of, number_of}
 use Rattle.live_input.specs.Standing.{LiveIs}
-use Rattle.live_input.specs.State.{LiveState}
+use Rattle.live_input.specs.State.{LiveState, latest}
 use Rattle.live_input.specs.Outgoing.{taken}
 
 -- the result of receiving the next message of a client
@@ -37,23 +38,26 @@ pub record Received (client : Client) (old new : LiveState) (r : Result (Option 
       → OnOk r (gone new.dispatcher client.channel ≡ received (past_of (answered ds (Receive client.channel) es)) client.channel)
   pub clients : SameClients old new
   pub named : new.named ≡ old.named
+  pub clock : new.clock ≡ old.clock
   pub err : OnErr r (new ≡ old)
+  pub calm : (ds : List ℕ) (es : List Effect) → LiveIs ds es old → MayCount es → IsOk r
 
 -- the result of finishing a message
 pub record Finished (now : ℕ) (client : Client) (seq : ℕ) (old new : LiveState) (r : Result (Unit {0}) FinishRefused) : Type 0 where
   pub stale : is_open old.seats client ≡ false → (r ≡ Err finish.NotOpen) × (new ≡ old)
   pub after :
       (ds : List ℕ) (es : List Effect) → LiveIs ds es old → is_open old.seats client ≡ true
-      → Finishes ds es (Finish now client.channel (number_of (seat_of old.seats client.channel) seq)) r old new
+      → Finishes ds es (Finish (latest now old) client.channel (number_of (seat_of old.seats client.channel) seq)) r old new
   pub clients : SameClients old new
   pub named : new.named ≡ old.named
+  pub calm : (ds : List ℕ) (es : List Effect) → LiveIs ds es old → MayCount es → r ≡ Err finish.Memory → ⊥
 
 -- the result of a pilfer
 pub record Pilfered (now : ℕ) (client : Client) (device : ℕ) (old new : LiveState) (r : Result (Unit {0}) PilferRefused) : Type 0 where
   pub stale : is_open old.seats client ≡ false → (r ≡ Err pilfer.NotOpen) × (new ≡ old)
   pub after :
       (ds : List ℕ) (es : List Effect) → LiveIs ds es old → is_open old.seats client ≡ true
-      → Pilfers ds es (Pilfer now client.channel device) r old new
+      → Pilfers ds es (Pilfer (latest now old) client.channel device) r old new
   pub clients : SameClients old new
   pub named : new.named ≡ old.named
 

@@ -9,14 +9,14 @@ use Rattle.live_input.specs.declared.windows.ClientWindow.{ClientWindow}
 use Rattle.live_input.specs.Answers.{SameClients}
 use Rattle.live_input.specs.Showing.{FocusGoes, may_ask}
 use Rattle.live_input.specs.Standing.{LiveIs}
-use Rattle.live_input.specs.State.{LiveState}
+use Rattle.live_input.specs.State.{LiveState, latest}
 use Rattle.live_input.specs.Windows.{WindowsGo}
 use Rattle.plain_calls.specs.Calling.{Reads, Replies, written}
 use Rattle.plain_calls.specs.Replies.{windows_status, named_by}
 
 -- the result of showing windows
 pub record Shown (now : ℕ) (windows : List ClientWindow) (old new : LiveState) (r : Result (Unit {0}) WindowsRefused) : Type 0 where
-  pub after : (ds : List ℕ) (es : List Effect) → LiveIs ds es old → WindowsGo ds now windows es r old new
+  pub after : (ds : List ℕ) (es : List Effect) → LiveIs ds es old → WindowsGo ds (latest now old) windows es r old new
   pub clients : SameClients old new
   pub named : new.named ≡ old.named
 
@@ -38,7 +38,7 @@ ShowsRead false windows status now old new before after =
 
 -- the result of a focus request
 pub record Asked (now display : ℕ) (client : Option Client) (old new : LiveState) (r : Result (Unit {0}) FocusRefused) : Type 0 where
-  pub after : (ds : List ℕ) (es : List Effect) → LiveIs ds es old → FocusGoes ds now display client es r old new
+  pub after : (ds : List ℕ) (es : List Effect) → LiveIs ds es old → FocusGoes ds (latest now old) display client es r old new
   pub stale : may_ask old.seats client ≡ false → (r ≡ Err NotOpen) × (new ≡ old)
   pub clients : SameClients old new
   pub named : new.named ≡ old.named

@@ -78,7 +78,7 @@ pub fn holds(live: &Live, client: &PlainClient, device: u8, ids: &mut u32) -> u3
     OK
 }
 
-/// The clock: the latest moment of any call, in microseconds.
+/// The clock: the latest moment that was handed in, in microseconds.
 pub fn clock(live: &Live) -> u64
     ensures { IsClock live.now result }
 {

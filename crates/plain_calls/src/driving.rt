@@ -1,7 +1,7 @@
 //! What is due, and what devices deliver.
 ghost use Rattle.std.specs.Prelude.{◌≡◌};
 ghost use Rattle.plain_calls.specs.Calling.{Reads, Replies, ok_of, answer_status, written};
-ghost use Rattle.plain_calls.specs.Driving.{IsDue, CaughtUp, Happened, HandedIn, Removed, event};
+ghost use Rattle.plain_calls.specs.Driving.{IsDue, CaughtUp, Happened, HandedIn, Removed};
 ghost use Rattle.plain_calls.specs.Numbers.{moment_of, device_of};
 ghost use Rattle.plain_calls.specs.Plain.{args_of};
 ghost use Rattle.plain_calls.specs.Replies.{args_status, advance_status};
@@ -12,7 +12,8 @@ use crate::replies::args_status;
 use crate::status::{MEMORY, NOTHING, OK, RANGE};
 use live_input::Live;
 
-/// The first moment at which something is due. `NOTHING` if nothing is; `moment` then stays as it was.
+/// The first moment at which something is due; the clock while something waits. `NOTHING` if nothing is; `moment` then
+/// stays as it was.
 pub fn due(live: &Live, moment_us: &mut u64) -> u32
     ensures { Replies answer_status result
         (λ r. IsDue live.now r × (moment_us.new ≡ written (λ t. t) r moment_us.old)) }
@@ -50,7 +51,7 @@ pub fn event(live: &mut Live, now_us: u64, device: u8, kind: u16, code: u16, val
     ensures { Reads (moment_of now_us) result (live.new ≡ live.old)
         (λ now. Reads (device_of device) result (live.new ≡ live.old)
         (λ d. Replies args_status result
-        (Happened now d (event now d kind code value) live.old live.new))) }
+        (Happened now d kind code value live.old live.new))) }
 {
     let Some(now) = moment_of(now_us) else {
         return RANGE;

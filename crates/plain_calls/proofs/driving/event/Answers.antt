@@ -1,9 +1,8 @@
 -- The value is a 32-bit number, so the event has it unchanged.
-use Rattle.std.proofs.Common.{◌∷◌, ◌∙◌, w32, sym, ap, subst}
+use Rattle.std.proofs.Common.{◌∙◌, w32, sym, ap, subst}
 use Rattle.std.proofs.lemmas.Int.{to_z-of_z}
-use Rattle.device_reader.specs.Cooked.{args_of}
-use Rattle.device_table.specs.Table.{StandsAt}
-use Rattle.live_input.specs.Giving.{Gives}
+use Rattle.live_input.specs.Giving.{GivesEvent}
+use Rattle.live_input.specs.State.{latest}
 use Rattle.plain_calls.specs.Driving.{Happened, event}
 use Rattle.plain_calls.proofs.Reading.{read_as}
 use Rattle.plain_calls.proofs.driving.event.Goals as goal
@@ -11,12 +10,11 @@ use Rattle.plain_calls.proofs.driving.event.Goals as goal
 pub returns : goal.returns
 returns c =
     let now = c.in-Some.now in let d = c.in-Some-device_of.device in let old = c.args.live.now in let new = c.event.new.self in
-    let same = ap (event now d c.args.kind c.args.code) (to_z-of_z w32 c.args.value c.ranges.value) in
-    let happened : Happened now d (event now d c.args.kind c.args.code c.args.value) old new c.event.result = record {
+    let same = ap (event (latest now old) d c.args.kind c.args.code) (to_z-of_z w32 c.args.value c.ranges.value) in
+    let happened : Happened now d c.args.kind c.args.code c.args.value old new c.event.result = record {
       none = c.event.ensures.none;
       after = λ ds es plan past h st.
-          subst (λ e. Gives ds now es (args_of plan past e) (StandsAt plan (e ∷ past) d new.devices) c.event.result old new) same
-          (c.event.ensures.after ds es plan past h st);
+          subst (λ e. GivesEvent ds (latest now old) es plan past e c.event.result old new) same (c.event.ensures.after ds es plan past h st);
       others = c.event.ensures.others;
       seats = c.event.ensures.seats;
       named = c.event.ensures.named;

@@ -14,7 +14,7 @@ returns-in-Ok-Some c =
         ap (λ (o : Option Message). answer_status o) is,
         (
           subst (λ k. Received k c.args.live.now c.next.new.self (Ok c.in-Ok-Some.field-0)) c.read.ensures
-              (record { stale = all.stale; message = all.message; after = all.after; numbers = all.numbers; kept = all.kept; clients = all.clients; named = all.named; err = all.err }),
+              (record { stale = all.stale; message = all.message; after = all.after; numbers = all.numbers; kept = all.kept; clients = all.clients; named = all.named; clock = all.clock; err = all.err; calm = all.calm }),
           c.of.ensures ∙ ap (λ o. written plain_message o c.args.message.now) is,
         ),
       ),
@@ -28,7 +28,7 @@ returns-in-Ok-None c =
         ap (λ (o : Option Message). answer_status o) is,
         (
           subst (λ k. Received k c.args.live.now c.next.new.self (Ok c.in-Ok-None.field-0)) c.read.ensures
-              (record { stale = all.stale; message = all.message; after = all.after; numbers = all.numbers; kept = all.kept; clients = all.clients; named = all.named; err = all.err }),
+              (record { stale = all.stale; message = all.message; after = all.after; numbers = all.numbers; kept = all.kept; clients = all.clients; named = all.named; clock = all.clock; err = all.err; calm = all.calm }),
           ap (λ o. written plain_message o c.args.message.now) is,
         ),
       ),

@@ -8,7 +8,7 @@ use Rattle.live_input.proofs.Plugged.{others_stay}
 use Rattle.live_input.proofs.live.Live.add_touch.Goals as goal
 
 pub returns-clause-stands : goal.returns-clause-stands
-returns-clause-stands c = λ ds es h. beside_goes ds es _ (subst (LiveIs ds es) (sym c.self.view_is) h) c.add_touch.new.self c.self.inside.pending.items
+returns-clause-stands c = λ ds es h. beside_goes ds es _ (subst (LiveIs ds es) (sym c.self.view_is) h) c.add_touch.new.self c.self.inside.pending.items c.self.inside.clock
 
 pub returns-clause-added : goal.returns-clause-added
 returns-clause-added c = λ ok. (

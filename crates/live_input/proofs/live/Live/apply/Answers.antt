@@ -2,6 +2,7 @@
 use Rattle.std.proofs.Common.{sym, ap, ◌∙◌, subst}
 use Rattle.dispatch_history.specs.Legal.{answered}
 use Rattle.dispatcher.proofs.Following.{stands_with}
+use Rattle.dispatcher.specs.Dispatching.{IsAfter}
 use Rattle.live_input.specs.Standing.{IsOfHeld, LiveIs}
 use Rattle.live_input.specs.State.{LiveState}
 use Rattle.live_input.proofs.Released.{from_live, release_but}
@@ -24,3 +25,7 @@ pub returns-in-Ok-clause-reply : goal.returns-in-Ok-clause-reply
 returns-in-Ok-clause-reply c = λ ds es h.
     let before = subst (LiveIs ds es) (sym c.self.view_is) h in
     (stands_more ds es _ before c.apply.new.self c.in-Ok.ensures.ok.goes.displays_are c.args.call.now c.in-Ok.reply (stands_with _ _ _ _ c.in-Ok.ensures.ok es before.stands)).0
+
+pub returns-in-Err-clause-calm : goal.returns-in-Err-clause-calm
+returns-in-Err-clause-calm c = λ es after may calm.
+    c.in-Err.ensures.calm es (subst (λ (s : LiveState). IsAfter es s.dispatcher) (sym c.self.view_is) after) may calm

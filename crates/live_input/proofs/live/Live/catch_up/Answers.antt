@@ -2,9 +2,10 @@
 use Rattle.std.proofs.Common.{refl, sym, ap, ◌∙◌, subst}
 use Rattle.dispatch_history.specs.Ordered.{extend}
 use Rattle.dispatcher.proofs.Standing.{after_of}
-use Rattle.live_input.specs.Standing.{LiveIs}
+use Rattle.live_input.specs.Standing.{IsMaskOfHeld, LiveIs}
 use Rattle.live_input.specs.State.{LiveState}
 use Rattle.live_input.proofs.Following.{advances_more, advanced, live_noted, plain_due}
+use Rattle.live_input.proofs.Reported.{none_named}
 use Rattle.live_input.proofs.live.Live.catch_up.Goals as goal
 
 pub loop-preserved : goal.loop-preserved
@@ -19,6 +20,7 @@ loop-preserved c =
           (c.in_ok-note.ensures.after ds (extend ds es a.calls) a.is plain.0 plain.1)
           (c.in_ok-note.ensures.named ds (extend ds es a.calls) a.is);
       clients = record { seats_are = c.note.ensures.clients.seats_are ∙ c.loop.invariant.clients.seats_are; opened_is = c.note.ensures.clients.opened_is ∙ c.loop.invariant.clients.opened_is; limit_is = c.note.ensures.clients.limit_is ∙ c.loop.invariant.clients.limit_is; devices_are = c.note.ensures.clients.devices_are ∙ c.loop.invariant.clients.devices_are; pending_is = c.note.ensures.clients.pending_is ∙ c.loop.invariant.clients.pending_is };
+      clock = c.note.ensures.clock ∙ c.loop.invariant.clock;
     }
 
 pub returns-in_default-clause-ok : goal.returns-in_default-clause-ok
@@ -28,5 +30,11 @@ returns-in_default-clause-ok c = λ ds es h.
     advanced ds c.args.now es _ _ _ _ a
     (sym (c.next_due.ensures (extend ds es a.calls) (after_of (extend ds es a.calls) _ there.stands)) ∙ c.in_default.is)
     (ap (λ (s : LiveState). s.named) c.self.view_is)
-    (live_noted ds (extend ds es a.calls) _ 0 there)
+    (live_noted ds (extend ds es a.calls) _ 0 there (none_named 0 _ refl))
     refl
+
+pub returns-in_default-clause-reported : goal.returns-in_default-clause-reported
+returns-in_default-clause-reported c = λ ds es h.
+    let named = (c.loop.invariant.advances ds es h).is.named_are in
+    subst (IsMaskOfHeld c.self.inside.named) (ap (λ (s : LiveState). s.seats) c.self.view_is ∙ c.loop.invariant.clients.seats_are)
+    (subst (λ (s : LiveState). IsMaskOfHeld s.named s.seats) (sym c.self.view_is) named)

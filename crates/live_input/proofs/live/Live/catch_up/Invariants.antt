@@ -1,4 +1,4 @@
-use Rattle.std.proofs.Common.{ℕ, List}
+use Rattle.std.proofs.Common.{◌≡◌, ℕ, List}
 use Rattle.dispatch_history.specs.Effect.{Effect}
 use Rattle.live_input.specs.Advancing.{Advances}
 use Rattle.live_input.specs.Answers.{SameClients}
@@ -11,4 +11,5 @@ invariant-loop l =
     record {
       advances : (ds : List ℕ) (es : List Effect) → LiveIs ds es l.initial.self → Advances ds l.now es l.initial.self l.self;
       clients : SameClients l.initial.self l.self;
+      clock : l.self.clock ≡ l.initial.self.clock;
     }

@@ -19,6 +19,7 @@ loop-preserved c =
           (c.in_ok-make.ensures.after ds (extend ds es r.calls) r.is plain.0 plain.1);
       clients = record { seats_are = c.make.ensures.clients.seats_are ∙ c.loop.invariant.clients.seats_are; opened_is = c.make.ensures.clients.opened_is ∙ c.loop.invariant.clients.opened_is; limit_is = c.make.ensures.clients.limit_is ∙ c.loop.invariant.clients.limit_is; devices_are = c.make.ensures.clients.devices_are ∙ c.loop.invariant.clients.devices_are; pending_is = c.make.ensures.clients.pending_is ∙ c.loop.invariant.clients.pending_is };
       named = c.make.ensures.named ∙ c.loop.invariant.named;
+      clock = c.make.ensures.clock ∙ c.loop.invariant.clock;
     }
 
 pub returns-in_default-clause-done : goal.returns-in_default-clause-done

@@ -12,4 +12,5 @@ invariant-loop l =
       reaches : (ds : List ℕ) (es : List Effect) → LiveIs ds es l.initial.self → Reaches ds (next_waiting l.now) es l.self;
       clients : SameClients l.initial.self l.self;
       named : l.self.named ≡ l.initial.self.named;
+      clock : l.self.clock ≡ l.initial.self.clock;
     }

@@ -25,6 +25,7 @@ loop-preserved c =
       windows = c.make.ensures.windows ∙ c.loop.invariant.windows;
       requests = c.make.ensures.requests ∙ c.loop.invariant.requests;
       named = c.make.ensures.named ∙ c.loop.invariant.named;
+      clock = c.make.ensures.clock ∙ c.loop.invariant.clock;
     }
 
 pub returns-in_default-clause-goes : goal.returns-in_default-clause-goes

@@ -15,4 +15,5 @@ invariant-loop l =
       windows : l.self.windows ≡ l.initial.self.windows;
       requests : l.self.requested ≡ l.initial.self.requested;
       named : l.self.named ≡ l.initial.self.named;
+      clock : l.self.clock ≡ l.initial.self.clock;
     }

@@ -1,12 +1,16 @@
 -- What a client had is taken from it, step by step.
 use Rattle.std.proofs.Common.{None, slice_index_or, sym, ap, ◌∙◌, subst}
+use Rattle.dispatch_history.specs.Effect.{past_of}
+use Rattle.dispatch_history.specs.Focus.{asked}
+use Rattle.dispatch_history.specs.Ordered.{extend}
 use Rattle.live_input.specs.Closing.{hidden}
-use Rattle.live_input.specs.Seats.{is_held, seat_of}
+use Rattle.live_input.specs.Seats.{IsHeld, is_held, seat_of}
 use Rattle.live_input.specs.Standing.{LiveIs}
 use Rattle.window_snapshot.specs.Named.{is_named}
 use Rattle.focus_resolver.specs.Resolver.{is_at}
 use Rattle.live_input.proofs.Emptied.{unasked}
 use Rattle.live_input.proofs.Results.{always, on_ok}
+use Rattle.live_input.proofs.Taken.{taken_hidden, taken_left, taken_none}
 use Rattle.live_input.proofs.live.Live.empty.Goals as goal
 
 pub returns-clause-done : goal.returns-clause-done
@@ -16,13 +20,13 @@ returns-clause-done c = λ ds es h held.
     c.drain.ensures.done ds _ b
     (held.0, held.1, ap (λ ss. is_held (seat_of ss c.args.channel)) (c.forget.ensures.clients.seats_are ∙ c.hide.ensures.clients.seats_are) ∙ held.2)
 
-pub returns-clause-stands : goal.returns-clause-stands
-returns-clause-stands c = λ ds es h held.
-    let a = c.in_ok-hide.ensures.after ds es h in
-    let b = c.in_ok-forget.ensures.after ds _ a in
-    let r = c.drain.ensures.goes ds _ b
-    (held.0, held.1, ap (λ ss. is_held (seat_of ss c.args.channel)) (c.forget.ensures.clients.seats_are ∙ c.hide.ensures.clients.seats_are) ∙ held.2) in
-    (_, r.is)
+pub returns-clause-part : goal.returns-clause-part
+returns-clause-part c = λ ds es h held.
+    let fs = hidden ds c.args.now c.args.channel es in
+    let b = c.in_ok-forget.ensures.part ds fs (c.in_ok-hide.ensures.after ds es h) in
+    let still : IsHeld c.args.channel c.forget.new.self.seats = (held.0, held.1, ap (λ ss. is_held (seat_of ss c.args.channel)) (c.forget.ensures.clients.seats_are ∙ c.hide.ensures.clients.seats_are) ∙ held.2) in
+    taken_hidden ds c.args.now c.args.channel es _
+    (taken_left ds c.args.now c.args.channel (asked (past_of fs)) fs _ _ b (c.drain.ensures.goes ds (extend ds fs b.calls) b.is still))
 
 pub returns-clause-hidden : goal.returns-clause-hidden
 returns-clause-hidden c =
@@ -39,8 +43,10 @@ returns-clause-unasked c = λ ds es h.
     ∙ ap (λ o. is_at o c.args.channel) (b.requests_are.channels_are y low)
     ∙ unasked ds c.args.now c.args.channel (hidden ds c.args.now c.args.channel es) y low)
 
-pub returns-in_err-hide-clause-stands : goal.returns-in_err-hide-clause-stands
-returns-in_err-hide-clause-stands c = λ ds es h held. (es, subst (LiveIs ds es) (sym c.in_err-hide.ensures.err) h)
+pub returns-in_err-hide-clause-part : goal.returns-in_err-hide-clause-part
+returns-in_err-hide-clause-part c = λ ds es h held.
+    taken_none ds c.args.now c.args.channel _ es _ (subst (LiveIs ds es) (sym c.in_err-hide.ensures.err) h)
 
-pub returns-in_err-forget-clause-stands : goal.returns-in_err-forget-clause-stands
-returns-in_err-forget-clause-stands c = λ ds es h held. c.in_err-forget.ensures.stands ds _ (c.in_ok-hide.ensures.after ds es h)
+pub returns-in_err-forget-clause-part : goal.returns-in_err-forget-clause-part
+returns-in_err-forget-clause-part c = λ ds es h held.
+    taken_hidden ds c.args.now c.args.channel es _ (c.in_err-forget.ensures.part ds _ (c.in_ok-hide.ensures.after ds es h))

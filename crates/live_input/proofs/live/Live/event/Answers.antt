@@ -1,13 +1,13 @@
 -- The reader takes the event, and what it gives is delivered.
-use Rattle.std.proofs.Common.{◌∷◌, ◌++◌, is_some, w32, sym, ap, ◌∙◌, subst}
+use Rattle.std.proofs.Common.{◌≡◌, ◌∷◌, ◌++◌, max, is_some, w32, sym, ap, ◌∙◌, subst}
 use Rattle.std.proofs.lemmas.Int.{to_z-of_z}
 use Rattle.raw_events.specs.declared.event.RawEvent.{RawEvent}
 use Rattle.device_reader.specs.Cooked.{args_of}
 use Rattle.device_table.specs.Table.{StandsAt, is_there}
-use Rattle.live_input.specs.Giving.{Gives}
+use Rattle.live_input.specs.Giving.{GivesEvent}
 use Rattle.live_input.specs.Standing.{LiveIs}
-use Rattle.live_input.specs.State.{LiveState}
-use Rattle.live_input.proofs.Handing.{beside_goes, delivers_in, not_there, same_value}
+use Rattle.live_input.specs.State.{LiveState, latest}
+use Rattle.live_input.proofs.Handing.{beside_goes, delivers_in, event_at, not_there, same_value}
 use Rattle.live_input.proofs.live.Live.event.Goals as goal
 
 pub returns-then-not-is_there-clause-after : goal.returns-then-not-is_there-clause-after
@@ -18,18 +18,22 @@ returns-then-not-is_there-clause-after c = λ ds es plan past h st.
 
 pub returns-in-Ok-clause-after : goal.returns-in-Ok-clause-after
 returns-in-Ok-clause-after c = λ ds es plan past h st.
+    let clocked : c.later-now.result ≡ latest c.args.now c.args.self.now =
+    c.later-now.ensures ∙ ap (λ (s : LiveState). max c.args.now s.clock) c.self.view_is in
     let e = c.event_of-event.result in
     let same =
-    c.event_of-event.ensures ∙ same_value c.args.device c.args.now c.args.kind c.args.code _ c.args.value (to_z-of_z w32 c.args.value c.ranges.value) in
+    c.event_of-event.ensures ∙ same_value c.args.device c.later-now.result c.args.kind c.args.code _ c.args.value (to_z-of_z w32 c.args.value c.ranges.value) in
     let of_it = ap (λ (x : RawEvent). x.device) same in
     let at =
     subst (λ d. StandsAt plan past d c.self.inside.devices) (sym of_it)
     (subst (λ (s : LiveState). StandsAt plan past c.args.device s.devices) (sym c.self.view_is) st) in
-    let there = beside_goes ds es _ (subst (LiveIs ds es) (sym c.self.view_is) h) c.take_into.new.self c.take_into.new.args.items in
-    subst (λ x. Gives ds c.args.now es (args_of plan past x) (StandsAt plan (x ∷ past) x.device c.deliver.new.self.devices) c.deliver.result c.args.self.now c.deliver.new.self)
+    let there = beside_goes ds es _ (subst (LiveIs ds es) (sym c.self.view_is) h) c.take_into.new.self c.take_into.new.args.items c.later-now.result in
+    subst (λ n. GivesEvent ds n es plan past (event_at c.args.device n c.args.kind c.args.code c.args.value) c.deliver.result c.args.self.now c.deliver.new.self) clocked
+    (subst (λ x. GivesEvent ds c.later-now.result es plan past x c.deliver.result c.args.self.now c.deliver.new.self)
     same
-    (delivers_in ds c.args.now es (args_of plan past e) c.take_into.new.args.items (StandsAt plan (e ∷ past) e.device c.deliver.new.self.devices)
+    (delivers_in ds c.later-now.result es (args_of plan past e) c.take_into.new.args.items (StandsAt plan (e ∷ past) e.device c.deliver.new.self.devices)
     c.deliver.result c.args.self.now c.deliver.new.self
     (c.in-Ok.ensures.ok plan past at ∙ ap (λ (s : LiveState). s.pending ++ args_of plan past e) c.self.view_is)
     (subst (StandsAt plan (e ∷ past) e.device) (sym c.deliver.ensures.devices) (c.in-Ok.ensures.after plan past at))
-    (c.deliver.ensures.after ds es there))
+    c.deliver.ensures.clock
+    (c.deliver.ensures.after ds es there)))

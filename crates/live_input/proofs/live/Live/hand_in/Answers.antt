@@ -20,7 +20,7 @@ loop-preserved c =
           (hands_more ds c.args.now es c.args.self.now.pending c.loop.self _ c.loop.fits c.in_ok-is_taken.is_taken c.in-Some.next
           (drop 1 c.loop.self.pending) x (got_first c.loop.self.pending c.in-Some.next was)
           (c.drop_first.ensures ∙ ap (drop 1) (ap (λ (s : LiveState). s.pending) c.self-in-loop.view_is ∙ c.notify.ensures.clients.pending_is))
-          (beside_goes ds _ _ (subst (LiveIs ds _) (sym c.self-in-loop.view_is) there) c.self-in-loop.inside.devices c.drop_first.new.args.items)
+          (beside_goes ds _ _ (subst (LiveIs ds _) (sym c.self-in-loop.view_is) there) c.self-in-loop.inside.devices c.drop_first.new.args.items c.self-in-loop.inside.clock)
           (c.in_ok-is_taken.ensures.taken ds x.so_far x.is));
       devices = ap (λ (s : LiveState). s.devices) c.self-in-loop.view_is ∙ c.notify.ensures.clients.devices_are ∙ c.loop.invariant.devices;
       seats =
@@ -30,6 +30,7 @@ loop-preserved c =
             limit_is = ap (λ (s : LiveState). s.limit) c.self-in-loop.view_is ∙ c.notify.ensures.clients.limit_is ∙ c.loop.invariant.seats.limit_is;
           };
       named = ap (λ (s : LiveState). s.named) c.self-in-loop.view_is ∙ c.notify.ensures.named ∙ c.loop.invariant.named;
+      clock = ap (λ (s : LiveState). s.clock) c.self-in-loop.view_is ∙ c.notify.ensures.clock ∙ c.loop.invariant.clock;
     }
 
 pub returns-in_default-clause-after : goal.returns-in_default-clause-after

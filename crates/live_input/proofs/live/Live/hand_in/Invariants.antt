@@ -13,4 +13,5 @@ invariant-loop l =
       devices : l.self.devices ≡ l.initial.self.devices;
       seats : SameSeats l.initial.self l.self;
       named : l.self.named ≡ l.initial.self.named;
+      clock : l.self.clock ≡ l.initial.self.clock;
     }

@@ -8,6 +8,8 @@ use Rattle.live_input.proofs.Opened.{full_by_none, not_full}
 use Rattle.live_input.proofs.Stepping.{seat_goes}
 use Rattle.live_input.proofs.Tenants.{tenants_new}
 use Rattle.live_input.proofs.Outgoing.{live_lawful}
+use Rattle.live_input.proofs.Able.{done_able}
+use Rattle.live_input.proofs.Reported.{named_new}
 use Rattle.live_input.proofs.Vacant.{seat_set, vacant_known, vacant_next}
 use Rattle.live_input.proofs.live.Live.open.Goals as goal
 
@@ -50,9 +52,12 @@ returns-in-Ok-clause-after c = λ ds es h.
     record {
       is =
           seat_goes ds fs _ there k _ next.from next.to (c.in-Ok.ensures.opened ds es h next) tenants (c.self-2.inside.opened + 1) c.occupy.new.seats
-          c.occupy.ensures;
+          c.occupy.ensures c.self-2.inside.named (named_new c.self-2.inside.seats k _ _ c.self-2.inside.named all next.from next.to there.named_are);
       before_is =
           ap (λ s. s.before)
           (ap (λ ss. seat_of ss k) c.occupy.ensures ∙ seat_set c.self-2.inside.seats k _ there.seats_are.all next.from next.to)
           ∙ c.in-Ok.ensures.sent ds es h next;
+      able_is =
+          let high = c.in-Ok.ensures.opened ds es h next in
+          done_able ds fs k (live_lawful ds fs _ there) (there.seats_are.lives k next.from high) (there.tenants_are.left k next.from high none).finished_all;
     }
