@@ -1,5 +1,9 @@
 pub mod Tied
-pub mod Sameness
+pub mod Measures
 pub mod Paired
 pub mod Going
+pub mod Chosen
+pub mod Sameness
+pub mod Differences
+pub mod Matching
 pub mod Examples

@@ -4,8 +4,8 @@ use Rattle.std.proofs.lemmas.Bool.{cases_eq, le-leb, leb-true, ne_eqb}
 use Rattle.std.proofs.lemmas.Bool.Decides.{nat_tests}
 use Rattle.std.proofs.lemmas.List.{get_or-set_same, get_or-set_other}
 use Rattle.std.specs.Option.{option_map}
-use Rattle.compare_text.specs.Compared.{take_first}
 use Rattle.compare_text.specs.Pairing.{first_at, left_from}
+use Rattle.compare_text.specs.Pairs.{take_first}
 use Rattle.compare_text.specs.Points.{Section}
 
 -- ---- none is paired yet

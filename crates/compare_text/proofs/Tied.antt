@@ -15,62 +15,55 @@ use Rattle.stream_text.specs.StreamLine.{CanSay}
 use Rattle.stream_text.specs.StreamAnswer.{channel_sent}
 use Rattle.stream_text.specs.StreamFile.{Event, Goes, Unread, events_of, follow, messages_of, streams_of, with_event}
 use Rattle.compare_text.specs.declared.section.Opened.{Opened}
-use Rattle.compare_text.specs.Compared.{points_in}
-use Rattle.compare_text.specs.Indexed.{are_opened, file_sections, is_opened, point_at, points_left, sections_at, seen}
-use Rattle.compare_text.specs.Points.{is_point, points_from, sections_of}
+use Rattle.compare_text.specs.Indexed.{are_opened, count_of, file_sections, is_opened, message_at, messages_left, sections_at, seen}
+use Rattle.compare_text.specs.Points.{numbered_from, sections_of}
 
--- how many points lines have
-abbrev pub count_points : List Event → ℕ
-count_points [] = 0
-count_points (e ∷ es) = point_at e.1 + count_points es
+-- how many messages lines have
+abbrev pub count_messages : List Event → ℕ
+count_messages [] = 0
+count_messages (e ∷ es) = message_at e.1 + count_messages es
 
 -- behind some lines: the sections so far may be compared and are, with those that are begun by the lines that are left, those of the file; so are
--- their points
-pub record Counted (bytes : List ℕ) (opened : List Opened) (points : ℕ) (es : List Event) : Type 0 where
+-- their messages
+pub record Counted (bytes : List ℕ) (opened : List Opened) (messages : ℕ) (es : List Event) : Type 0 where
   pub may : are_opened opened ≡ true
   pub all : file_sections bytes ≡ Ok (map seen opened ++ sections_at es)
-  pub counted : points + count_points es ≡ points_in (map seen opened ++ sections_at es)
+  pub counted : messages + count_messages es ≡ count_of (map seen opened ++ sections_at es)
 
 -- ---- numbered lines
 
-points_said : (says : StreamLine) (n k : ℕ) (es : List Event) → k ≡ n → points_from (n + 1) (messages_of es) ≡ points_left es
-    → points_from n (messages_of ((k, says) ∷ es)) ≡ points_left ((k, says) ∷ es)
-points_said (Channel id) n k es e h = refl
-points_said (Message m) n k es e h =
-    ap (λ ps. if is_point m.body then (n, m) ∷ ps else ps) h ∙ ap (λ j. if is_point m.body then (j, m) ∷ points_left es else points_left es) (sym e)
-points_said (End id sent received finished) n k es e h = refl
-points_said (Anr clock id seq) n k es e h = refl
+messages_said : (says : StreamLine) (n k : ℕ) (es : List Event) → k ≡ n → numbered_from (n + 1) (messages_of es) ≡ messages_left es
+    → numbered_from n (messages_of ((k, says) ∷ es)) ≡ messages_left ((k, says) ∷ es)
+messages_said (Channel id) n k es e h = refl
+messages_said (Message m) n k es e h = ap (λ ms. (n, m) ∷ ms) h ∙ ap (λ j. (j, m) ∷ messages_left es) (sym e)
+messages_said (End id sent received finished) n k es e h = refl
+messages_said (Anr clock id seq) n k es e h = refl
 
-points_tied : (es : List Event) (place : Place) (n : ℕ) → ArePlaced place n es → points_from n (messages_of es) ≡ points_left es
-points_tied [] place n p = refl
-points_tied ((k, says) ∷ es) place n p = points_said says n k es (p.0) (points_tied es p.2.0 (n + 1) p.2.2)
+messages_tied : (es : List Event) (place : Place) (n : ℕ) → ArePlaced place n es → numbered_from n (messages_of es) ≡ messages_left es
+messages_tied [] place n p = refl
+messages_tied ((k, says) ∷ es) place n p = messages_said says n k es (p.0) (messages_tied es p.2.0 (n + 1) p.2.2)
 
-sections_said : (says : StreamLine) (n k : ℕ) (es : List Event) → k ≡ n → points_from (n + 1) (messages_of es) ≡ points_left es
+sections_said : (says : StreamLine) (n k : ℕ) (es : List Event) → k ≡ n → numbered_from (n + 1) (messages_of es) ≡ messages_left es
     → sections_of (streams_of es) ≡ sections_at es → sections_of (streams_of ((k, says) ∷ es)) ≡ sections_at ((k, says) ∷ es)
-sections_said (Channel id) n k es e points h =
+sections_said (Channel id) n k es e messages h =
     let line : k + 1 - 1 ≡ k = omega arith in
-    let own : points_from (k + 1) (messages_of es) ≡ points_left es = rw e points in
+    let own : numbered_from (k + 1) (messages_of es) ≡ messages_left es = rw e messages in
     rw (line, own, h) refl
-sections_said (Message m) n k es e points h = h
-sections_said (End id sent received finished) n k es e points h = h
-sections_said (Anr clock id seq) n k es e points h = h
+sections_said (Message m) n k es e messages h = h
+sections_said (End id sent received finished) n k es e messages h = h
+sections_said (Anr clock id seq) n k es e messages h = h
 
 sections_tied : (es : List Event) (place : Place) (n : ℕ) → ArePlaced place n es → sections_of (streams_of es) ≡ sections_at es
 sections_tied [] place n p = refl
 sections_tied ((k, says) ∷ es) place n p =
-    sections_said says n k es (p.0) (points_tied es p.2.0 (n + 1) p.2.2) (sections_tied es p.2.0 (n + 1) p.2.2)
+    sections_said says n k es (p.0) (messages_tied es p.2.0 (n + 1) p.2.2) (sections_tied es p.2.0 (n + 1) p.2.2)
 
--- ---- points stand in sections
+-- ---- messages stand in sections
 
 abbrev counts : Place → List Event → Type 0
-counts Between es = count_points es ≡ points_in (sections_at es)
-counts (Inside id told) es = count_points es ≡ length (points_left es) + points_in (sections_at es)
-counts Anrs es = count_points es ≡ points_in (sections_at es)
-
-one_point : (b : Bool) (n rest sections : ℕ) (m : Told) (ps : List (ℕ × Told)) → rest ≡ length ps + sections
-    → (if b then 1 else 0) + rest ≡ length (if b then (n, m) ∷ ps else ps) + sections
-one_point true n rest sections m ps h = omega (arith, h)
-one_point false n rest sections m ps h = omega (arith, h)
+counts Between es = count_messages es ≡ count_of (sections_at es)
+counts (Inside id told) es = count_messages es ≡ length (messages_left es) + count_of (sections_at es)
+counts Anrs es = count_messages es ≡ count_of (sections_at es)
 
 sent_next : (id count : ℕ) (b : Bool) (next : Place) → (if b then Some (Inside id (count + 1)) else None) ≡ Some next → Inside id (count + 1) ≡ next
 sent_next id count true next h = cc
@@ -92,7 +85,7 @@ count_step Between next n (Anr clock id seq) es f h =
 count_step (Inside id told) next n (Channel other) es f h = absurd (cc)
 count_step (Inside id told) next n (Message m) es f h =
     let own : counts (Inside id (told + 1)) es = subst (λ (p : Place). counts p es) (sym (sent_next id told (m.seq == told + 1) next f)) h in
-    one_point (is_point m.body) n (count_points es) (points_in (sections_at es)) m (points_left es) own
+    omega (arith, own)
 count_step (Inside id told) next n (End e sent received finished) es f h =
     let own : counts Between es = subst (λ (p : Place). counts p es) (sym (ended_next ((e == id) && (sent == told)) next f)) h in omega (arith, own)
 count_step (Inside id told) next n (Anr clock other seq) es f h = absurd (cc)
@@ -144,17 +137,17 @@ pub bad_before : (e : Event) (old new : Result (List Event) ℕ) (line : ℕ) �
 bad_before e old new line is same = is ∙ ap (with_event e) same
 
 -- no section begins
-pub passed : (bytes : List ℕ) (opened : List Opened) (points more n : ℕ) (says : StreamLine) (old new : Result (List Event) ℕ) (es : List Event)
-    → ((id : ℕ) → says ≡ Channel id → ⊥) → more ≡ points + point_at says → old ≡ with_event (n, says) new → new ≡ Ok es
-    → ((fs : List Event) → old ≡ Ok fs → Counted bytes opened points fs) → Counted bytes opened more es
-passed bytes opened points more n (Channel id) old new es no_section is line same h = absurd (no_section id refl)
-passed bytes opened points more n (Message m) old new es no_section is line same h =
+pub passed : (bytes : List ℕ) (opened : List Opened) (messages more n : ℕ) (says : StreamLine) (old new : Result (List Event) ℕ) (es : List Event)
+    → ((id : ℕ) → says ≡ Channel id → ⊥) → more ≡ messages + message_at says → old ≡ with_event (n, says) new → new ≡ Ok es
+    → ((fs : List Event) → old ≡ Ok fs → Counted bytes opened messages fs) → Counted bytes opened more es
+passed bytes opened messages more n (Channel id) old new es no_section is line same h = absurd (no_section id refl)
+passed bytes opened messages more n (Message m) old new es no_section is line same h =
     let c = h ((n, Message m) ∷ es) (before (n, Message m) old new es line same) in
     record { may = c.may; all = c.all; counted = omega (arith, is, c.counted) }
-passed bytes opened points more n (End id sent received finished) old new es no_section is line same h =
+passed bytes opened messages more n (End id sent received finished) old new es no_section is line same h =
     let c = h ((n, End id sent received finished) ∷ es) (before (n, End id sent received finished) old new es line same) in
     record { may = c.may; all = c.all; counted = omega (arith, is, c.counted) }
-passed bytes opened points more n (Anr clock id seq) old new es no_section is line same h =
+passed bytes opened messages more n (Anr clock id seq) old new es no_section is line same h =
     let c = h ((n, Anr clock id seq) ∷ es) (before (n, Anr clock id seq) old new es line same) in
     record { may = c.may; all = c.all; counted = omega (arith, is, c.counted) }
 
@@ -162,20 +155,20 @@ opened_one : (s : Opened) (es : List Event) → s.lines.events ≡ Ok es → s.i
 opened_one s es good id = rw (good, lt-ltb s.id 65 id) refl
 
 -- a section begins
-pub begun : (bytes : List ℕ) (opened more : List Opened) (s : Opened) (points n : ℕ) (old new : Result (List Event) ℕ) (es : List Event)
+pub begun : (bytes : List ℕ) (opened more : List Opened) (s : Opened) (messages n : ℕ) (old new : Result (List Event) ℕ) (es : List Event)
     → more ≡ opened ++ s ∷ [] → s.line ≡ n → s.lines.events ≡ new → s.id < 65 → old ≡ with_event (n, Channel s.id) new → new ≡ Ok es
-    → ((fs : List Event) → old ≡ Ok fs → Counted bytes opened points fs) → Counted bytes more points es
-begun bytes opened more s points n old new es is line lines id read same h =
+    → ((fs : List Event) → old ≡ Ok fs → Counted bytes opened messages fs) → Counted bytes more messages es
+begun bytes opened more s messages n old new es is line lines id read same h =
     let c = h ((n, Channel s.id) ∷ es) (before (n, Channel s.id) old new es read same) in
-    let own : seen s ≡ record { id = s.id; line = n; points = points_left es } = rw (line, lines, same) refl in
-    let sections : map seen more ++ sections_at es ≡ map seen opened ++ (record { id = s.id; line = n; points = points_left es } ∷ sections_at es) =
+    let own : seen s ≡ record { id = s.id; line = n; messages = messages_left es } = rw (line, lines, same) refl in
+    let sections : map seen more ++ sections_at es ≡ map seen opened ++ (record { id = s.id; line = n; messages = messages_left es } ∷ sections_at es) =
     rw (is, map-append seen opened (s ∷ []), append_assoc, own) refl in
-    let points_are : points + count_points es ≡ points_in (map seen opened ++ (record { id = s.id; line = n; points = points_left es } ∷ sections_at es)) =
+    let messages_are : messages + count_messages es ≡ count_of (map seen opened ++ (record { id = s.id; line = n; messages = messages_left es } ∷ sections_at es)) =
     omega (arith, c.counted) in
     record {
       may = rw (is, list_all-append is_opened opened (s ∷ []), c.may, opened_one s es (lines ∙ same) id) refl;
       all = rw sections c.all;
-      counted = rw sections points_are;
+      counted = rw sections messages_are;
     }
 
 -- the line begins a section, or none
@@ -190,16 +183,6 @@ begins_none (Channel other) h id e = absurd (cc)
 begins_none (Message m) h id e = absurd (cc)
 begins_none (End x sent received finished) h id e = absurd (cc)
 begins_none (Anr clock other seq) h id e = absurd (cc)
-
-at_most : (b : Bool) → (if b then 1 else 0) ≤ 1
-at_most true = omega arith
-at_most false = omega arith
-
-pub one_at_most : (says : StreamLine) → point_at says ≤ 1
-one_at_most (Channel id) = omega arith
-one_at_most (Message m) = at_most (is_point m.body)
-one_at_most (End id sent received finished) = omega arith
-one_at_most (Anr clock id seq) = omega arith
 
 -- a line that begins a section says one of 64 channels
 said : (says : StreamLine) (id : ℕ) → says ≡ Channel id → CanSay says → id < 65
@@ -216,11 +199,11 @@ id_said o n says id is can h =
     let there : IfSome (event n says) (λ e. CanSay e.1) = subst (λ (x : Option Event). IfSome x (λ e. CanSay e.1)) is can in said says id h there
 
 -- after the last line
-pub ends : (bytes : List ℕ) (opened : List Opened) (points : ℕ) → Counted bytes opened points []
-    → ((are_opened opened ≡ true) × (points ≡ points_in (map seen opened))) × (file_sections bytes ≡ Ok (map seen opened))
-ends bytes opened points h =
+pub ends : (bytes : List ℕ) (opened : List Opened) (messages : ℕ) → Counted bytes opened messages []
+    → ((are_opened opened ≡ true) × (messages ≡ count_of (map seen opened))) × (file_sections bytes ≡ Ok (map seen opened))
+ends bytes opened messages h =
     let nothing : map seen opened ++ [] ≡ map seen opened = append-nil (map seen opened) in
-    let total : points + 0 ≡ points_in (map seen opened) = h.counted ∙ ap points_in nothing in
+    let total : messages + 0 ≡ count_of (map seen opened) = h.counted ∙ ap count_of nothing in
     ((h.may, omega (arith, total)), h.all ∙ ap (λ ss. Ok ss) nothing)
 
 pub none_left : (old new : Unread) (o : Option Event) → o ≡ None → Goes old (Ok o) new → old.events ≡ Ok []

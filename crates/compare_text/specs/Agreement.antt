@@ -23,18 +23,24 @@ close pixels a b = nat_le (unsigned_abs (a -ℤ b)) pixels
 abbrev pub close_by : ℕ → Pixel → Pixel → Bool
 close_by pixels a b = close pixels a.x b.x && close pixels a.y b.y
 
--- the same ids in order, at places that are close
-abbrev pub same_pointers : ℕ → List Pointer → List Pointer → Bool
-same_pointers pixels [] [] = true
-same_pointers pixels (p ∷ ps) (q ∷ qs) = (nat_eq p.id q.id && close_by pixels p.at q.at) && same_pointers pixels ps qs
-same_pointers pixels [] (q ∷ qs) = false
-same_pointers pixels (p ∷ ps) [] = false
+-- the same ids in order
+abbrev pub same_ids : List Pointer → List Pointer → Bool
+same_ids [] [] = true
+same_ids (p ∷ ps) (q ∷ qs) = nat_eq p.id q.id && same_ids ps qs
+same_ids [] (q ∷ qs) = false
+same_ids (p ∷ ps) [] = false
 
--- two motions of one device, action, index and flags, and the same pointers
+-- each pointer is close to the one at its place in the other list
+abbrev pub are_close : ℕ → List Pointer → List Pointer → Bool
+are_close pixels (p ∷ ps) (q ∷ qs) = close_by pixels p.at q.at && are_close pixels ps qs
+are_close pixels _ _ = true
+
+-- two motions of one device, action, index and flags, with the same pointers, at places that are close
 abbrev pub same_motion : ℕ → Motion → Motion → Bool
 same_motion pixels a b =
     nat_eq a.device b.device
-    && (nat_eq (action_number a.action) (action_number b.action) && (nat_eq a.index b.index && (nat_eq a.flags b.flags && same_pointers pixels a.pointers b.pointers)))
+    && (nat_eq (action_number a.action) (action_number b.action)
+    && (nat_eq a.index b.index && (nat_eq a.flags b.flags && (same_ids a.pointers b.pointers && are_close pixels a.pointers b.pointers))))
 
 -- two key messages of one device, scan code, key code, meta state, direction, flags and repeat
 abbrev pub same_key : KeyMsg → KeyMsg → Bool
@@ -53,4 +59,4 @@ same_body pixels _ _ = false
 
 -- two points agree: they have the same body at moments that are near
 abbrev pub agree : ℕ → ℕ → Message → Message → Bool
-agree us pixels a b = near us a.moment b.moment && same_body pixels a.body b.body
+agree us pixels a b = same_body pixels a.body b.body && near us a.moment b.moment

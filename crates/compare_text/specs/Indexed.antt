@@ -1,5 +1,5 @@
 -- The sections of a file, as readers that stand at their first messages.
-use Rattle.std.specs.Prelude.{◌≡◌, ℕ, ◌&&◌, nat_lt, Bool, true, false, if◌then◌else◌, List, [], ◌∷◌, Result, Ok, Err}
+use Rattle.std.specs.Prelude.{◌≡◌, ℕ, ◌+◌, ◌&&◌, nat_lt, Bool, true, false, List, [], ◌∷◌, length, Result, Ok, Err}
 use Rattle.std.specs.List.{list_all}
 use Rattle.input_types.specs.declared.message.Message.{Message as Told}
 use Rattle.stream_text.specs.declared.stream_error.StreamError.{StreamError}
@@ -8,36 +8,41 @@ use Rattle.stream_text.specs.declared.stream_line.StreamLine.{StreamLine}
 use Rattle.stream_text.specs.declared.stream_line.StreamLine.TheVariants.{Channel, Message}
 use Rattle.stream_text.specs.StreamFile.{Event, Stream, events_of, streams_in}
 use Rattle.compare_text.specs.declared.section.Opened.{Opened}
-use Rattle.compare_text.specs.Points.{Section, is_point, sections_of}
+use Rattle.compare_text.specs.Points.{Section, sections_of}
 
--- a line in front of points: one more if it is a point, and none after it if it is no message
-abbrev pub with_point : ℕ → StreamLine → List (ℕ × Told) → List (ℕ × Told)
-with_point line (Message m) points = if is_point m.body then (line, m) ∷ points else points
-with_point line _ points = []
+-- a line in front of messages: one more, and none after it if it is no message
+abbrev pub with_message : ℕ → StreamLine → List (ℕ × Told) → List (ℕ × Told)
+with_message line (Message m) messages = (line, m) ∷ messages
+with_message line _ messages = []
 
--- the points of an open section, from the remaining lines
-abbrev pub points_left : List Event → List (ℕ × Told)
-points_left [] = []
-points_left (e ∷ es) = with_point e.0 e.1 (points_left es)
+-- the messages of an open section, from the remaining lines
+abbrev pub messages_left : List Event → List (ℕ × Told)
+messages_left [] = []
+messages_left (e ∷ es) = with_message e.0 e.1 (messages_left es)
 
 -- the same, if none of the lines is bad
-abbrev pub points_at : Result (List Event) ℕ → List (ℕ × Told)
-points_at (Ok es) = points_left es
-points_at (Err bad) = []
+abbrev pub messages_at : Result (List Event) ℕ → List (ℕ × Told)
+messages_at (Ok es) = messages_left es
+messages_at (Err bad) = []
 
 -- no remaining line is bad
 abbrev pub is_good : Result (List Event) ℕ → Bool
 is_good (Ok es) = true
 is_good (Err bad) = false
 
--- a section, with the points that its reader has left
+-- a section, with the messages that its reader has left
 abbrev pub seen : Opened → Section
-seen s = record { id = s.id; line = s.line; points = points_at s.lines.events }
+seen s = record { id = s.id; line = s.line; messages = messages_at s.lines.events }
 
--- how many points a line is
-abbrev pub point_at : StreamLine → ℕ
-point_at (Message m) = if is_point m.body then 1 else 0
-point_at _ = 0
+-- how many messages a line is
+abbrev pub message_at : StreamLine → ℕ
+message_at (Message m) = 1
+message_at _ = 0
+
+-- how many messages these sections have
+abbrev pub count_of : List Section → ℕ
+count_of [] = 0
+count_of (s ∷ ss) = length s.messages + count_of ss
 
 -- a section may be compared: no line after it is bad, and its channel is one of 64
 abbrev pub is_opened : Opened → Bool
@@ -49,13 +54,13 @@ are_opened ss = list_all is_opened ss
 
 -- a line in front of sections
 abbrev pub with_section : ℕ → StreamLine → List (ℕ × Told) → List Section → List Section
-with_section line (Channel id) points sections = record { id = id; line = line; points = points } ∷ sections
-with_section line _ points sections = sections
+with_section line (Channel id) messages sections = record { id = id; line = line; messages = messages } ∷ sections
+with_section line _ messages sections = sections
 
 -- the sections that lines begin
 abbrev pub sections_at : List Event → List Section
 sections_at [] = []
-sections_at (e ∷ es) = with_section e.0 e.1 (points_left es) (sections_at es)
+sections_at (e ∷ es) = with_section e.0 e.1 (messages_left es) (sections_at es)
 
 -- those of streams
 abbrev pub sections_in : Result (List Stream) ℕ → Result (List Section) ℕ

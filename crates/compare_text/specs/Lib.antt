@@ -1,5 +1,8 @@
 pub mod Points
+pub mod Pairs
 pub mod Agreement
+pub mod Differing
+pub mod Measured
 pub mod Compared
 pub mod Lines
 pub mod Indexed

@@ -2,6 +2,7 @@
 ghost use Rattle.std.specs.Prelude.{◌≡◌};
 ghost use Rattle.compare_text.specs.declared.error.CompareError.TheVariants.{Memory};
 
+use crate::difference::Difference;
 use std::alloc::AllocError;
 
 /// Why two stream files differ: the first of these for the first expected section that has one, and then for the
@@ -9,19 +10,31 @@ use std::alloc::AllocError;
 #[derive(Clone, Copy, Debug, PartialEq, Eq)]
 pub enum CompareError {
     /// The points of these lines do not agree.
-    Differs { want: u64, got: u64 },
+    Differs {
+        want: u64,
+        got: u64,
+        what: Difference,
+    },
 
     /// The actual section ended, and the expected one has this further point.
-    Missing { want: u64 },
+    Missing {
+        want: u64,
+    },
 
     /// The expected section ended, and the actual one has this further point.
-    Added { got: u64 },
+    Added {
+        got: u64,
+    },
 
     /// The expected section that begins in this line has no partner.
-    NoSection { want: u64 },
+    NoSection {
+        want: u64,
+    },
 
     /// The actual section that begins in this line has no partner.
-    NewSection { got: u64 },
+    NewSection {
+        got: u64,
+    },
 
     /// Out of memory.
     Memory,

@@ -1,17 +1,28 @@
 //! Proved facts about comparing. Each function has a law as its clause, and does nothing.
-ghost use Rattle.compare_text.specs.Laws.{MonotoneLaw, ReflexiveLaw, SymmetricLaw};
+ghost use Rattle.compare_text.specs.Laws.{AgreementLaw, DifferenceLaw, MonotoneLaw, ReflexiveLaw, SymmetricLaw};
 
-/// Sections agree with themselves.
+/// Two points differ in nothing exactly if they agree.
+pub fn points_agree()
+    ensures { DifferenceLaw }
+{}
+
+/// There is no fault exactly if each section that is looked at has a partner, and the points of each pair are equally
+/// many and agree in order.
+pub fn files_agree()
+    ensures { AgreementLaw }
+{}
+
+/// Sections agree with themselves, if the same channel is named for both files, or none.
 pub fn reflexive()
     ensures { ReflexiveLaw }
 {}
 
-/// Agreement does not depend on which of two files is the expected one.
+/// Agreement does not depend on which of two files is the expected one, if the channels are exchanged too.
 pub fn symmetric()
     ensures { SymmetricLaw }
 {}
 
-/// What agrees within less agrees within more.
+/// What agrees within less agrees within more, and is told by the same line.
 pub fn monotone()
     ensures { MonotoneLaw }
 {}

@@ -1,8 +1,8 @@
 //! Whether an actual stream file agrees with an expected one, within tolerances of time and position.
 //!
 //! Every message is a point except a move that is not canceled, since the next message that lists its pointers shows
-//! where they moved. So a device that merges moves agrees with one that does not. With 20 microseconds and 3 pixels,
-//! the stream
+//! where they moved. So a device that merges moves agrees with one that does not; but a move is a point too if
+//! [`Comparison`] says so. With 20 microseconds and 3 pixels, the stream
 //!
 //! ```text
 //! channel 1 main
@@ -21,21 +21,27 @@
 //! end 1 sent 2 received 0 finished 0
 //! ```
 //!
-//! and the text is `same 1 2`: one pair of sections and two pairs of points. Sections are paired by their channels,
-//! the first of a channel with the first, the second with the second. No message is kept: `Sections` has a reader for
-//! each section, and two readers advance in step.
+//! and the text is `same 1 2 us 12 pixels 3`: one pair of sections, two pairs of points, and the greatest distances of
+//! these. With 2 pixels it would differ in a `place 0,3`: the actual pointer is 3 pixels too low. Sections pair by
+//! their channels, the first of a channel with the first, the second with the second. If a channel is named for a file,
+//! only its sections are looked at, and the first is paired with the first of the other file. No message is kept:
+//! `Sections` has a reader for each section, and two readers advance in step.
 #![tactic(auto)]
 
 mod agreement;
 mod compare;
+mod comparison;
+mod difference;
 mod error;
 mod laws;
+mod measure;
 mod points;
 mod section;
 mod sections;
 
-pub use agreement::Tolerance;
 pub use compare::compare_text;
+pub use comparison::{Comparison, Tolerance};
+pub use difference::Difference;
 pub use error::CompareError;
-pub use laws::{monotone, reflexive, symmetric};
+pub use laws::{files_agree, monotone, points_agree, reflexive, symmetric};
 pub use sections::Sections;

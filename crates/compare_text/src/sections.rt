@@ -1,10 +1,8 @@
 //! The sections of a file.
 ghost use Rattle.std.specs.Prelude.{◌≡◌, ◌+◌, ◌<◌, ◌≤◌, true, map, Ok, Err, IfOk, IfErr};
-ghost use Rattle.compare_text.specs.Compared.{points_in};
-ghost use Rattle.compare_text.specs.Indexed.{Reads, are_opened, file_sections, point_at, seen};
+ghost use Rattle.compare_text.specs.Indexed.{Reads, are_opened, count_of, file_sections, message_at, seen};
 ghost use Rattle.stream_text.specs.StreamAnswer.{channel_sent};
 
-use crate::points::is_point;
 use crate::section::Opened;
 use std::alloc::Global;
 use std::marker::Model;
@@ -14,14 +12,13 @@ use stream_text::{StreamError, StreamLine, StreamLines};
 #[derive(Drop)]
 pub struct Sections<'a> {
     pub(crate) sections: Vec<Opened<'a>>,
-    /// How many points they have.
-    pub(crate) points: u64,
+    /// How many messages they have: so a count of points fits 64 bits.
+    pub(crate) messages: u64,
 }
 
 impl<'a> Model for Sections<'a> {
-    ghost use Rattle.std.specs.Prelude.{◌≡◌, List, map, true};
-    ghost use Rattle.compare_text.specs.Compared.{points_in};
-    ghost use Rattle.compare_text.specs.Indexed.{are_opened, seen};
+    ghost use Rattle.std.specs.Prelude.{◌≡◌, ◌<◌, ◌^◌, List, map, true};
+    ghost use Rattle.compare_text.specs.Indexed.{are_opened, count_of, seen};
     ghost use Rattle.compare_text.specs.Points.{Section};
 
     ghost Value = { List Section };
@@ -29,7 +26,7 @@ impl<'a> Model for Sections<'a> {
     ghost view = { λ s. map seen s.sections.items };
 
     ghost invariant = { λ s. (are_opened s.sections.items ≡ true)
-        × (s.points ≡ points_in (map seen s.sections.items)) };
+        × (s.messages ≡ count_of (map seen s.sections.items)) × (count_of (map seen s.sections.items) < 2 ^ 64) };
 }
 
 /// The channel whose section a line begins.
@@ -42,13 +39,13 @@ fn channel_of(says: &StreamLine) -> Option<u32>
     }
 }
 
-/// How many points a line is.
-fn point_at(says: &StreamLine) -> u64
-    ensures value { result ≡ point_at says.now }
+/// How many messages a line is.
+fn message_at(says: &StreamLine) -> u64
+    ensures value { result ≡ message_at says.now }
     ensures range { result ≤ 1 }
 {
     match says {
-        StreamLine::Message(message) => u64::from(is_point(&message.body)),
+        StreamLine::Message(_) => 1,
         _ => 0,
     }
 }
@@ -65,7 +62,7 @@ impl<'a> Sections<'a> {
             Err(line) => return Err(StreamError::BadLine { line }),
         };
         let mut sections = Vec::new(alloc);
-        let mut points: u64 = 0;
+        let mut messages: u64 = 0;
         'lines: loop {
             match lines.next() {
                 Ok(Some((line, says))) => match channel_of(&says) {
@@ -73,9 +70,9 @@ impl<'a> Sections<'a> {
                         let lines = lines.again();
                         sections.push(Opened { id, line, lines })?;
                     }
-                    None => points += point_at(&says),
+                    None => messages += message_at(&says),
                 },
-                Ok(None) => return Ok(Sections { sections, points }),
+                Ok(None) => return Ok(Sections { sections, messages }),
                 Err(line) => return Err(StreamError::BadLine { line }),
             }
         }

@@ -74,3 +74,26 @@ no_device :
     ≡ codes "lines 2 blank 0 other 0 unknown 2 events 0\npath - 2\nsteps 1 before 1 within 0 after 0\nhint no device\n"
 unfolding digits judged judged_text formed fields_of moment_at seconds_at path_at number_at
 no_device = refl
+
+-- an event at a moment
+abbrev at : ℕ → (kind code value : ℕ) → RawEvent
+at moment kind code value = record { device = 1; moment = moment; kind = kind; code = code; value = pos value }
+
+-- a byte order mark; a drop, whose next report is void; then the clock goes back for three events, one of them at x 5000
+numbers_that_should_be_0 :
+    inspected one_device ((239 ∷ 187 ∷ 191 ∷ codes "# a tap") ∷ []) (screen ∷ [])
+    (at 2500000 0 0 0 ∷ at 1500000 3 54 100 ∷ at 1500000 3 53 5000 ∷ at 1500000 3 57 45 ∷ at 2000000 0 0 0 ∷ at 2000000 0 3 0 ∷ []) (step 3000000 ∷ []) []
+    ≡ codes "lines 1 blank 0 other 1 unknown 0 events 6\nmoments 1500000 2500000\n"
+    ++ codes "device 1 touch events 6 used 6 void 1 drops 1 packets 1 fingers 1 palms 0 clamped 1 strayed 0 args 2\n"
+    ++ codes "steps 1 before 0 within 0 after 1\n"
+    ++ codes "hint device 1 still down 0\nhint device 1 clamped 1\nhint device 1 drops 1\nhint clock back 3\nhint byte order mark\nhint steps after\n"
+unfolding digits judged judged_text formed fields_of moment_at seconds_at path_at number_at assigned least_free
+numbers_that_should_be_0 = refl
+
+keys_that_were_lost :
+    inspected one_device [] (keyboard ∷ []) (event 0 3 0 ∷ []) [] []
+    ≡ codes "lines 0 blank 0 other 0 unknown 0 events 1\nmoments 1000000 1000000\n"
+    ++ codes "device 1 keys events 1 used 1 void 0 drops 1 downs 0 unnamed 0 args 1\n"
+    ++ codes "steps 0 before 0 within 0 after 0\nhint device 1 no keys\nhint device 1 drops 1\n"
+unfolding digits
+keys_that_were_lost = refl

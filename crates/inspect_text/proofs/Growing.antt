@@ -16,6 +16,13 @@ regroup_three text a b c = simp append_assoc
 pub regroup_four : (text a b c d : List ℕ) → (((text ++ a) ++ b) ++ c) ++ d ≡ text ++ (((a ++ b) ++ c) ++ d)
 regroup_four text a b c d = simp append_assoc
 
-pub regroup_all : (text recording steps keys a b c : List ℕ)
-    → (((text ++ recording) ++ steps) ++ keys) ++ ((a ++ b) ++ c) ≡ text ++ (((((recording ++ steps) ++ keys) ++ a) ++ b) ++ c)
-regroup_all text recording steps keys a b c = simp append_assoc
+pub regroup_all : (text recording steps keys a b c d e f : List ℕ)
+    → ((((text ++ recording) ++ steps) ++ keys) ++ (((a ++ b) ++ c) ++ d)) ++ (e ++ f)
+    ≡ text ++ ((((((((recording ++ steps) ++ keys) ++ a) ++ b) ++ c) ++ d) ++ e) ++ f)
+regroup_all text recording steps keys a b c d e f = simp append_assoc
+
+pub regroup_two : (text a b : List ℕ) → (text ++ a) ++ b ≡ text ++ (a ++ b)
+regroup_two text a b = append_assoc text a b
+
+pub regroup_number : (text front device words n end : List ℕ) → ((text ++ (front ++ device)) ++ (words ++ n)) ++ end ≡ text ++ ((((front ++ device) ++ words) ++ n) ++ end)
+regroup_number text front device words n end = simp append_assoc

@@ -7,3 +7,4 @@ pub mod Examples
 pub mod Growing
 pub mod Pointers
 pub mod Touched
+pub mod Used

@@ -13,6 +13,7 @@ use Rattle.recording_counts.specs.Touch.{ranges_of, touch_counts}
 use Rattle.session_plan.specs.declared.plan.Step.{Step}
 use Rattle.recording_counts.specs.declared.moments.Span.{Span}
 use Rattle.recording_counts.specs.Moments.{span_of}
+use Rattle.inspect_text.specs.CountedHints.{clock_hint, counts_hint, mark_hint}
 use Rattle.inspect_text.specs.Hints.{hint_at, hint_line}
 use Rattle.inspect_text.specs.Lines.{keys_line, lines_line, moments_line, path_line, steps_line, touch_line}
 
@@ -75,4 +76,5 @@ abbrev pub inspected : Known → List (List ℕ) → List DevicePlan → List Ra
 inspected devices lines plans events steps keys =
     let span = span_of events in
     lines_text devices lines events ++ moments_line span ++ each_device device_text 1 plans events ++ paths_text (unknown_paths devices lines)
-    ++ steps_text span steps ++ keys ++ each_device hint_text 1 plans events ++ late_steps_hint span steps ++ no_device_hint plans
+    ++ steps_text span steps ++ keys ++ each_device hint_text 1 plans events ++ each_device counts_hint 1 plans events ++ clock_hint events
+    ++ mark_hint lines ++ late_steps_hint span steps ++ no_device_hint plans

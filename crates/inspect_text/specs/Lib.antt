@@ -1,4 +1,6 @@
 pub mod Lines
 pub mod Hints
+pub mod CountedHints
 pub mod Inspected
 pub mod Laws
+pub mod Used

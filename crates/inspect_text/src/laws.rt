@@ -1,5 +1,6 @@
 //! What is proved of the numbers of the text. Each function has a law as its clause, and does nothing.
 ghost use Rattle.inspect_text.specs.Laws.{ArgsLaw, KeysHintLaw, LinesLaw, TouchHintLaw};
+ghost use Rattle.inspect_text.specs.Used.{UsedLaw};
 
 /// The lines of a recording are the blank ones, those of another form, those of devices that are not in the session,
 /// and those that give an event.
@@ -20,4 +21,9 @@ pub fn keys_are_cooked()
 /// A touch device at which nothing is hinted gives some args.
 pub fn touches_are_cooked()
     ensures { TouchHintLaw }
+{}
+
+/// The args of a device are those of the events that its line counts as used.
+pub fn used_events()
+    ensures { UsedLaw }
 {}

@@ -24,9 +24,12 @@
 //! ```
 //!
 //! Each number is that of a list of lines, events, steps or args (specs/Inspected), and a hint says what looks as if
-//! it was not meant so. The counts come from `recording_counts`, which keeps no list.
+//! it was not meant so: here that a finger is never lifted, and that a step comes behind all events. Others are
+//! positions outside their axis, drops, a clock that goes back, and a byte order mark. The counts come from
+//! `recording_counts`, which keeps no list.
 #![tactic(auto, unfolding(text_lines::specs::Written::labeled))]
 
+mod counted_hints;
 mod devices;
 mod hints;
 pub mod laws;

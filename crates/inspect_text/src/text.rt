@@ -8,9 +8,11 @@ ghost use Rattle.recording_counts.specs.LineTally.{LineCountsStandFor, SortsLine
 ghost use Rattle.recording_counts.specs.Devices.{AllCounted};
 ghost use Rattle.recording_counts.specs.Moments.{span_of};
 ghost use Rattle.recording_counts.specs.EventTally.{EventTallyStandsFor};
+ghost use Rattle.inspect_text.specs.CountedHints.{clock_hint, counts_hint, mark_hint};
 ghost use Rattle.inspect_text.specs.Inspected.{device_text, each_device, hint_text, inspected, late_steps_hint, lines_text, no_device_hint, paths_text};
 ghost use Rattle.inspect_text.specs.Lines.{moments_line};
 
+use crate::counted_hints::{add_all_counts, add_clock_back, add_mark};
 use crate::devices::add_devices;
 use crate::hints::add_hints;
 use crate::lines::{add_lines, add_moments, add_paths};
@@ -52,8 +54,27 @@ fn add_no_device(text: &mut Vec<u8>, devices: &[DeviceTally]) -> Result<(), Allo
     }
 }
 
-/// Adds all hints.
-fn add_all_hints(
+/// Adds the hints at the events of the recording and its lines.
+fn add_recording_hints(
+    text: &mut Vec<u8>,
+    lines: &LineCounts,
+    events: &EventTally,
+) -> Result<(), AllocError>
+    ensures { (devices : Known) (past : List (List ℕ)) (plans : List DevicePlan) (given : List Event)
+        → LineCountsStandFor devices past lines.now → EventTallyStandsFor plans given events.now
+        → IfOk result (λ _. text.new.items
+        ≡ text.old.items
+        ++ (each_device hint_text 1 plans given ++ each_device counts_hint 1 plans given ++ clock_hint given
+        ++ mark_hint past)) }
+{
+    add_hints(text, events.devices())?;
+    add_all_counts(text, events.devices())?;
+    add_clock_back(text, events.clock_back())?;
+    add_mark(text, lines.marked)
+}
+
+/// Adds the hints at the session beside a recording.
+fn add_session_hints(
     text: &mut Vec<u8>,
     devices: &[DeviceTally],
     span: &Option<Span>,
@@ -61,10 +82,8 @@ fn add_all_hints(
 ) -> Result<(), AllocError>
     ensures { (plans : List DevicePlan) (given : List Event) → AllCounted plans given devices.now
         → IfOk result (λ _. text.new.items
-        ≡ text.old.items
-        ++ (each_device hint_text 1 plans given ++ late_steps_hint span.now steps.now ++ no_device_hint plans)) }
+        ≡ text.old.items ++ (late_steps_hint span.now steps.now ++ no_device_hint plans)) }
 {
-    add_hints(text, devices)?;
     add_late_steps(text, span, steps)?;
     add_no_device(text, devices)
 }
@@ -97,5 +116,6 @@ pub fn inspect_text(
     let span = events.span();
     add_steps(text, &span, steps)?;
     add_bytes(text, keys)?;
-    add_all_hints(text, events.devices(), &span, steps)
+    add_recording_hints(text, lines, events)?;
+    add_session_hints(text, events.devices(), &span, steps)
 }

@@ -1,4 +1,4 @@
--- What a verifier tells to be down is what is down after the messages that it accepted.
+-- What a verifier reports as down is what is down after the messages that it accepted.
 use Rattle.std.proofs.Common.{◌≡◌, ℕ, ◌+◌, ◌<◌, ◌≤◌, Bool, true, false, if◌then◌else◌, suc, List, [], ◌∷◌, ◌++◌, length, map, Some, None, is_some, refl, sym, ap, ◌∙◌, arith, add-one, append-nil}
 use Rattle.std.proofs.lemmas.List.{map-append}
 use Rattle.bits32.specs.Set.{members}
@@ -19,7 +19,7 @@ same_down past t pointers keys stands is rising exact =
     let held : pointers ≡ pointers_up_to 8 (ids_in (Some (state_of t))) = is in
     rw (stands.state, held, all) refl
 
--- it is told where it is something
+-- what is down is reported if it is something
 pub nothing_sent : (down known : Down) (v : Bool) → down ≡ known → v ≡ is_nothing down → v ≡ true → None ≡ (if is_nothing known then None else Some known)
 nothing_sent down known v same is h = let none : is_nothing known ≡ true = ap is_nothing (sym same) ∙ sym is ∙ h in rw none refl
 

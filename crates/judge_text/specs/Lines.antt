@@ -46,7 +46,7 @@ abbrev pub keys_text : List HeldKey → List ℕ
 keys_text [] = []
 keys_text (k ∷ ks) = key_text k ++ keys_text ks
 
--- the line of a refusal, without its newline; want of memory has none
+-- the line of a refusal, without its newline; out of memory has none
 unfoldable pub refusal_line : JudgeError → List ℕ
 refusal_line (BadLine line) = codes "stream: BadLine " ++ decimal line
 refusal_line (Broken line why) = codes "stream: Broken " ++ (decimal line ++ (codes " " ++ word why))

@@ -7,7 +7,8 @@ use Rattle.pointer_ids.specs.declared.assigned.Held.{Held}
 use Rattle.pointer_ids.specs.PointerIds.{assigned, least_free}
 use Rattle.recording_counts.specs.declared.touch.Ranges.{Ranges}
 use Rattle.recording_counts.specs.Events.{event_counts, is_keys_used, is_touch_used}
-use Rattle.recording_counts.specs.Lines.{is_blank_line, is_event_line, is_other_line, is_unknown_line, path_named}
+use Rattle.recording_counts.specs.Lines.{begins_marked, is_blank_line, is_event_line, is_other_line, is_unknown_line, path_named}
+use Rattle.recording_counts.specs.Moments.{back_events}
 use Rattle.recording_counts.specs.Paths.{firsts, times}
 use Rattle.recording_counts.specs.Touch.{held_at, touch_counts}
 
@@ -100,3 +101,27 @@ first_paths = refl
 
 b_times : times b (a ∷ b ∷ b ∷ a ∷ []) ≡ 2
 b_times = refl
+
+-- at the second and the last event the clock is below the 7 of the first one, at the third it is not
+abbrev at : ℕ → RawEvent
+at moment = record { device = 1; moment = moment; kind = 0; code = 0; value = pos 0 }
+
+went_back : back_events (at 6 ∷ at 7 ∷ at 4 ∷ at 7 ∷ []) ≡ at 6 ∷ at 4 ∷ []
+went_back = refl
+
+went_on : back_events (at 9 ∷ at 9 ∷ at 3 ∷ []) ≡ []
+went_on = refl
+
+-- the bytes EF BB BF, and a line behind them; only in front of the first line they are a mark
+abbrev marked : List ℕ
+marked = 239 ∷ 187 ∷ 191 ∷ codes "# touches"
+
+first_marked : begins_marked (codes "[ 1.500000] 0001 0073 00000001" ∷ marked ∷ []) ≡ true
+first_marked = refl
+
+second_marked : begins_marked (marked ∷ codes "# touches" ∷ []) ≡ false
+second_marked = refl
+
+marked_is_other : is_other_line devices marked ≡ true
+unfolding judged judged_text fields_of number_at
+marked_is_other = refl

@@ -3,7 +3,9 @@ pub mod Examples
 pub mod Forms
 pub mod Joining
 pub mod KeySteps
+pub mod Marks
 pub mod LineSteps
+pub mod Back
 pub mod Noted
 pub mod Oks
 pub mod Raised

@@ -1,5 +1,5 @@
 -- The counts of lines, one line more.
-use Rattle.std.specs.Prelude.{◌≡◌, ℕ, ◌==◌, nat_lt, Bool, true, false, not, codes, List, [], ◌∷◌, filter, unwrap_or, is_some, length, Result, Ok, Err, OnOk, cond, if◌then◌else◌}
+use Rattle.std.specs.Prelude.{◌≡◌, ℕ, ◌==◌, nat_eq, nat_lt, Bool, true, false, not, codes, List, [], ◌∷◌, filter, unwrap_or, is_some, length, Result, Ok, Err, OnOk, cond, if◌then◌else◌}
 use Rattle.std.proofs.Common.{refl, ap, subst, ◌∙◌, arith}
 use Rattle.raw_events.specs.declared.event.RawEvent.{RawEvent}
 use Rattle.raw_events.specs.declared.event.LineError.{LineError}
@@ -7,10 +7,11 @@ use Rattle.raw_events.specs.Line.{Known, judged, judged_text, formed, or_bad, se
 use Rattle.raw_events.specs.Recording.{with_line}
 use Rattle.recording_counts.specs.declared.lines.LineCounts.{LineCounts}
 use Rattle.recording_counts.specs.Counted.{counted, risen}
-use Rattle.recording_counts.specs.Lines.{IsRead, given_by, is_blank_line, is_other_line, is_unknown_line, passes, path_in, path_named, text_of, unknown_paths}
+use Rattle.recording_counts.specs.Lines.{IsRead, begins_other, given_by, is_blank_line, is_marked, is_other_line, is_unknown_line, passes, path_in, path_named, text_of, unknown_paths}
 use Rattle.recording_counts.specs.Paths.{PathTable, PathsStandFor}
 use Rattle.recording_counts.specs.LineTally.{LineCountsStandFor, SortsLines}
 use Rattle.recording_counts.proofs.Forms.{formed_passes, read_formed}
+use Rattle.recording_counts.proofs.Marks.{marked_more, marked_stays}
 
 pub counted_more : {X : Type 0} (x : X) (xs : List X) → risen (counted xs) ≡ counted (x ∷ xs)
 counted_more x xs = omega arith
@@ -86,9 +87,10 @@ module _ (devices : Known) (past : List (List ℕ)) (line : List ℕ) (old new :
   }
 
   pub blank_more : LineCountsStandFor devices past old → text_of line ≡ [] → new.lines ≡ risen old.lines → new.blank ≡ risen old.blank → new.other ≡ old.other
-      → new.unknown ≡ old.unknown → new.paths ≡ old.paths → LineCountsStandFor devices (line ∷ past) new
-  blank_more h e l b o u p = record {
+      → new.unknown ≡ old.unknown → new.marked ≡ old.marked → new.paths ≡ old.paths → LineCountsStandFor devices (line ∷ past) new
+  blank_more h e l b o u m p = record {
     lines_are = l ∙ ap risen h.lines_are ∙ counted_more line past;
+    marked_is = marked_stays line past old.marked new.marked (ap begins_other e) m h.marked_is;
     sorted = λ r.
         let is = blank_passes devices line r.0 e in
         sorts_more true false false (record { blank_is = rw (is, e) refl; other_is = rw (is, e) refl; unknown_is = rw (is, e) refl }) b o u
@@ -96,9 +98,11 @@ module _ (devices : Known) (past : List (List ℕ)) (line : List ℕ) (old new :
   }
 
   pub other_more : LineCountsStandFor devices past old → (c : ℕ) (cs : List ℕ) → text_of line ≡ c ∷ cs → (c == 91) ≡ false → new.lines ≡ risen old.lines → new.blank ≡ old.blank
-      → new.other ≡ risen old.other → new.unknown ≡ old.unknown → new.paths ≡ old.paths → LineCountsStandFor devices (line ∷ past) new
-  other_more h c cs e n l b o u p = record {
+      → new.other ≡ risen old.other → new.unknown ≡ old.unknown → new.marked ≡ (if nat_eq new.lines 1 then is_marked line else old.marked)
+      → new.paths ≡ old.paths → LineCountsStandFor devices (line ∷ past) new
+  other_more h c cs e n l b o u m p = record {
     lines_are = l ∙ ap risen h.lines_are ∙ counted_more line past;
+    marked_is = marked_more line past new.lines old.marked new.marked (l ∙ ap risen h.lines_are ∙ counted_more line past) m h.marked_is;
     sorted = λ r.
         let is = other_passes devices line c cs r.0 e n in
         sorts_more false true false (record { blank_is = rw (is, e) refl; other_is = rw (is, e, n) refl; unknown_is = rw (is, e, n) refl }) b o u
@@ -118,12 +122,13 @@ module _ (devices : Known) (past : List (List ℕ)) (line : List ℕ) (old new :
   turned_paths false path paths table h = h
 
   pub event_more : LineCountsStandFor devices past old → (text : List ℕ) → text_of line ≡ 91 ∷ text → new.lines ≡ risen old.lines → new.blank ≡ old.blank → new.other ≡ old.other
-      → (is_some (formed devices text) ≡ true → new.unknown ≡ (if is_some (sender devices (path_in text)) then old.unknown else risen old.unknown))
+      → new.marked ≡ old.marked → (is_some (formed devices text) ≡ true → new.unknown ≡ (if is_some (sender devices (path_in text)) then old.unknown else risen old.unknown))
       → ((paths : List (List ℕ)) → is_some (formed devices text) ≡ true → PathsStandFor paths old.paths
       → PathsStandFor (if is_some (sender devices (path_in text)) then paths else unwrap_or (path_in text) (codes "-") ∷ paths) new.paths)
       → LineCountsStandFor devices (line ∷ past) new
-  event_more h text e l b o u p = record {
+  event_more h text e l b o m u p = record {
     lines_are = l ∙ ap risen h.lines_are ∙ counted_more line past;
+    marked_is = marked_stays line past old.marked new.marked (ap begins_other e) m h.marked_is;
     sorted = λ r.
         let f = event_formed devices line text r.0 e in
         let t : Bool = is_some (sender devices (path_in text)) in
@@ -135,9 +140,9 @@ module _ (devices : Known) (past : List (List ℕ)) (line : List ℕ) (old new :
 
   -- the same, unless memory ran out
   pub event_ok : {T E : Type 0} (r : Result T E) → LineCountsStandFor devices past old → (text : List ℕ) → text_of line ≡ 91 ∷ text → new.lines ≡ risen old.lines → new.blank ≡ old.blank → new.other ≡ old.other
-      → (is_some (formed devices text) ≡ true → OnOk r (new.unknown ≡ (if is_some (sender devices (path_in text)) then old.unknown else risen old.unknown)))
+      → new.marked ≡ old.marked → (is_some (formed devices text) ≡ true → OnOk r (new.unknown ≡ (if is_some (sender devices (path_in text)) then old.unknown else risen old.unknown)))
       → ((paths : List (List ℕ)) → is_some (formed devices text) ≡ true → PathsStandFor paths old.paths
       → OnOk r (PathsStandFor (if is_some (sender devices (path_in text)) then paths else unwrap_or (path_in text) (codes "-") ∷ paths) new.paths))
       → OnOk r (LineCountsStandFor devices (line ∷ past) new)
-  event_ok (Ok x) h text e l b o u p = event_more h text e l b o u p
-  event_ok (Err x) h text e l b o u p = tt
+  event_ok (Ok x) h text e l b o m u p = event_more h text e l b o m u p
+  event_ok (Err x) h text e l b o m u p = tt

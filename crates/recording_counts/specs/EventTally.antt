@@ -8,15 +8,16 @@ use Rattle.recording_counts.specs.Counted.{counted}
 use Rattle.recording_counts.specs.declared.device.DeviceTally.{DeviceTally}
 use Rattle.recording_counts.specs.declared.moments.Span.{Span}
 use Rattle.recording_counts.specs.Devices.{AllCounted}
-use Rattle.recording_counts.specs.Moments.{span_of}
+use Rattle.recording_counts.specs.Moments.{back_events, span_of}
 
 -- what contracts see of a tally of events: the readers of the devices, the counts of each, from which moment to which they
--- are, and how many
+-- are, how many they are, and at how many of them the clock went back
 pub record EventsState : Type 0 where
   pub readers : ReadersState
   pub devices : List DeviceTally
   pub span : Option Span
   pub events : ℕ
+  pub back : ℕ
 
 -- the counts are those of these events
 pub record EventTallyStandsFor (plans : List DevicePlan) (past : List RawEvent) (s : EventsState) : Type 0 where
@@ -24,3 +25,4 @@ pub record EventTallyStandsFor (plans : List DevicePlan) (past : List RawEvent) 
   pub devices_counted : AllCounted plans past s.devices
   pub span_is : s.span ≡ span_of past
   pub events_are : s.events ≡ counted past
+  pub back_are : s.back ≡ counted (back_events past)

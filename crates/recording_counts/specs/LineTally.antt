@@ -3,7 +3,7 @@ use Rattle.std.specs.Prelude.{◌≡◌, ℕ, List, filter, reverse}
 use Rattle.raw_events.specs.Line.{Known}
 use Rattle.raw_events.specs.Pieces.{parts}
 use Rattle.recording_counts.specs.Counted.{counted}
-use Rattle.recording_counts.specs.Lines.{AreRead, is_blank_line, is_other_line, is_unknown_line, unknown_paths}
+use Rattle.recording_counts.specs.Lines.{AreRead, begins_marked, is_blank_line, is_other_line, is_unknown_line, unknown_paths}
 use Rattle.recording_counts.specs.Paths.{PathsStandFor}
 use Rattle.recording_counts.specs.declared.lines.LineCounts.{LineCounts}
 
@@ -17,6 +17,7 @@ pub record SortsLines (devices : Known) (past : List (List ℕ)) (c : LineCounts
 -- the counts are those of these lines
 pub record LineCountsStandFor (devices : Known) (past : List (List ℕ)) (c : LineCounts) : Type 0 where
   pub lines_are : c.lines ≡ counted past
+  pub marked_is : c.marked ≡ begins_marked past
   pub sorted : AreRead devices past → SortsLines devices past c
 
 -- what contracts see of a tally of lines: the devices of the session, the bytes of the line that has begun, and the counts

@@ -20,6 +20,17 @@ abbrev pub passes : Result (List RawEvent) LineError → Bool
 passes (Ok []) = true
 passes _ = false
 
+-- the bytes begin with the byte order mark of UTF-8
+abbrev pub is_marked : List ℕ → Bool
+is_marked (a ∷ b ∷ c ∷ bs) = a == 239 && (b == 187 && c == 191)
+is_marked _ = false
+
+-- the first line does, and so the recording
+abbrev pub begins_marked : List (List ℕ) → Bool
+begins_marked [] = false
+begins_marked (line ∷ []) = is_marked line
+begins_marked (line ∷ before ∷ past) = begins_marked (before ∷ past)
+
 -- a line gives an event
 abbrev pub gives : Result (List RawEvent) LineError → Bool
 gives (Ok (event ∷ events)) = true

@@ -4,10 +4,13 @@ ghost use Rattle.raw_events.specs.declared.event.RawEvent.{RawEvent as Event};
 ghost use Rattle.device_reader.specs.Cooked.{DevicePlan};
 ghost use Rattle.device_reader.specs.CookedList.{ReadersStandFor, added};
 ghost use Rattle.recording_counts.specs.Devices.{AllCounted};
+ghost use Rattle.recording_counts.specs.Counted.{counted};
 ghost use Rattle.recording_counts.specs.EventTally.{EventTallyStandsFor};
+ghost use Rattle.recording_counts.specs.Moments.{back_events, span_of};
 
 use crate::device::DeviceTally;
-use crate::moments::{Span, widened};
+use crate::moments::{Span, is_below, widened};
+use crate::number::risen_if;
 use device_reader::Readers;
 use input_types::Args;
 use raw_events::RawEvent;
@@ -18,13 +21,15 @@ use std::marker::Model;
 /// whatever comes.
 ///
 /// Contracts see the readers, the counts of each device in the order of their numbers, from which moment to which the
-/// events are, and how many they are.
+/// events are, how many they are, and at how many of them the clock went back.
 #[derive(Drop)]
 pub struct EventTally {
     readers: Readers,
     devices: Vec<DeviceTally>,
     span: Option<Span>,
     events: u64,
+    /// How many events have a moment below that of some event before them.
+    back: u64,
     /// The args of an event.
     args: Vec<Args>,
 }
@@ -34,7 +39,13 @@ impl Model for EventTally {
 
     ghost Value = { EventsState };
 
-    ghost view = { λ t. record { readers = t.readers; devices = t.devices.items; span = t.span; events = t.events } };
+    ghost view = { λ t. record {
+      readers = t.readers;
+      devices = t.devices.items;
+      span = t.span;
+      events = t.events;
+      back = t.back;
+    } };
 }
 
 impl EventTally {
@@ -48,6 +59,7 @@ impl EventTally {
             devices,
             span: None,
             events: 0,
+            back: 0,
             args: Vec::new(alloc),
         }
     }
@@ -59,6 +71,7 @@ impl EventTally {
     {
         self.args.clear();
         self.readers.take(event, &mut self.args)?;
+        self.back = back_with(self.back, self.span, &event);
         self.span = widened(self.span, event.moment);
         self.events = self.events.saturating_add(1);
         take_any(&mut self.devices, &event, &self.args)
@@ -96,6 +109,21 @@ impl EventTally {
     {
         self.events
     }
+
+    /// How many events have a moment below that of some event before them.
+    pub fn clock_back(&self) -> u64
+        ensures { result ≡ self.now.back }
+    {
+        self.back
+    }
+}
+
+/// How many events have a moment below that of some event before them, with the next event.
+fn back_with(back: u64, span: Option<Span>, event: &RawEvent) -> u64
+    ensures { (past : List Event) → span ≡ span_of past → back ≡ counted (back_events past)
+        → result ≡ counted (back_events (event.now ∷ past)) }
+{
+    risen_if(back, is_below(span, event.moment))
 }
 
 /// Takes the next event by the counts of its device. An event of a device without counts is passed over.

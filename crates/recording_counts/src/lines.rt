@@ -1,11 +1,11 @@
 //! What each line is.
-ghost use Rattle.std.specs.Prelude.{◌≡◌, ◌∷◌, [], ◌++◌, ℕ, List, codes, option_map, reverse, unwrap_or, is_some};
+ghost use Rattle.std.specs.Prelude.{◌≡◌, ◌∷◌, [], ◌++◌, ℕ, nat_eq, List, codes, option_map, reverse, unwrap_or, is_some};
 ghost use Rattle.std.specs.Prelude.{MatchOption, IfOk, IsTrue, OnOk, if◌then◌else◌};
 ghost use Rattle.raw_events.specs.Line.{Known, device_at, formed, known, sender};
 ghost use Rattle.raw_events.specs.Pieces.{parts};
 ghost use Rattle.recording_counts.specs.Counted.{risen};
 ghost use Rattle.recording_counts.specs.Cut.{behind_bracket};
-ghost use Rattle.recording_counts.specs.Lines.{path_in, text_of};
+ghost use Rattle.recording_counts.specs.Lines.{is_marked, path_in, text_of};
 ghost use Rattle.recording_counts.specs.Paths.{PathsStandFor};
 ghost use Rattle.recording_counts.specs.LineTally.{LineCountsStandFor};
 
@@ -18,13 +18,15 @@ use std::alloc::{AllocError, Global};
 use text_lines::{skip_blanks, word_len};
 
 /// How many lines there are, and how many of them are passed over: lines of nothing but blanks, lines of another form,
-/// and lines of events whose device is not in the session, with the first paths of these.
+/// and lines of events whose device is not in the session, with the first paths of these; and whether the first line
+/// begins with a byte order mark.
 #[derive(Drop)]
 pub struct LineCounts {
     pub lines: u64,
     pub blank: u64,
     pub other: u64,
     pub unknown: u64,
+    pub marked: bool,
     pub paths: UnknownPaths,
 }
 
@@ -38,6 +40,7 @@ impl LineCounts {
             blank: 0,
             other: 0,
             unknown: 0,
+            marked: false,
             paths: UnknownPaths::new(alloc),
         }
     }
@@ -52,6 +55,23 @@ fn text_of(line: &[u8]) -> &[u8]
         [text @ .., b'\r'] => skip_blanks(text),
         _ => skip_blanks(line),
     }
+}
+
+/// Whether bytes begin with the byte order mark of UTF-8.
+fn is_marked(bytes: &[u8]) -> bool
+    ensures { result ≡ is_marked bytes.now }
+{
+    match bytes {
+        [a, b, c, ..] => *a == 0xEF && *b == 0xBB && *c == 0xBF,
+        _ => false,
+    }
+}
+
+/// Whether the recording begins with a byte order mark, if that is known of the lines before this one.
+fn marked_at(lines: u64, line: &[u8], before: bool) -> bool
+    ensures { result ≡ (if nat_eq lines 1 then is_marked line.now else before) }
+{
+    if lines == 1 { is_marked(line) } else { before }
 }
 
 /// The first byte and those behind it; None where there is none.
@@ -127,6 +147,7 @@ fn count_event(
     ensures lines { counts.new.lines ≡ counts.old.lines }
     ensures blank { counts.new.blank ≡ counts.old.blank }
     ensures other { counts.new.other ≡ counts.old.other }
+    ensures marked { counts.new.marked ≡ counts.old.marked }
     ensures unknown { IsTrue (is_some (formed (known devices.now) text.now)) → OnOk result (counts.new.unknown
         ≡ (if is_some (sender (known devices.now) (path_in text.now)) then counts.old.unknown
         else risen counts.old.unknown)) }
@@ -165,6 +186,7 @@ pub(crate) fn count_line(
         return count_event(devices, counts, text);
     }
     counts.other = risen_if(counts.other, true);
+    counts.marked = marked_at(counts.lines, line, counts.marked);
     Ok(())
 }
 

@@ -1,6 +1,6 @@
 //! From the first moment to the last.
 ghost use Rattle.std.specs.Prelude.{◌≡◌, min, Option, Some};
-ghost use Rattle.recording_counts.specs.Moments.{widened};
+ghost use Rattle.recording_counts.specs.Moments.{is_below, widened};
 
 use input_types::Moment;
 
@@ -31,5 +31,15 @@ pub(crate) fn widened(span: Option<Span>, moment: Moment) -> Option<Span>
             first: earlier(span.first, moment),
             last: span.last.later(moment),
         }),
+    }
+}
+
+/// Whether a moment is below the greatest one so far.
+pub(crate) fn is_below(span: Option<Span>, moment: Moment) -> bool
+    ensures { result ≡ is_below span moment }
+{
+    match span {
+        None => false,
+        Some(span) => moment.get() < span.last.get(),
     }
 }

@@ -7,7 +7,7 @@ use Rattle.session_plan.specs.declared.error.PlanError.{PlanError}
 use Rattle.session_plan.specs.declared.error.PlanError.TheVariants.{NotToml, Missing, Wrong, UnknownName, OutOfRange, BadLayout, Memory}
 use Rattle.session_plan.specs.Fault.{Fault, not_toml, missing, wrong, unknown_name, out_of_range, bad_layout}
 
--- the number of the line that a layout is refused for; want of memory has none
+-- the number of the line that a layout is refused for; out of memory has none
 abbrev pub refused_line : LayoutError → ℕ
 refused_line (layout.BadLine line) = line
 refused_line (layout.BadName line) = line
@@ -27,7 +27,7 @@ line_of (unknown_name key) = codes "session: UnknownName " ++ key
 line_of (out_of_range key value) = codes "session: OutOfRange " ++ (key ++ (codes " " ++ signed_decimal value))
 line_of (bad_layout device error) = layout_line device error
 
--- the line of an error; want of memory is no refusal and has an empty one
+-- the line of an error; out of memory is no refusal and has an empty one
 abbrev pub error_line : PlanError → List ℕ
 error_line NotToml = codes "session: NotToml"
 error_line (Missing key) = codes "session: Missing " ++ string_bytes key

@@ -5,7 +5,7 @@ use Rattle.session_plan.specs.declared.error.PlanError.{PlanError}
 use Rattle.session_plan.specs.declared.error.PlanError.TheVariants.{NotToml, Missing, Wrong, UnknownName, OutOfRange, BadLayout, Memory}
 use Rattle.session_plan.specs.Fault.{Fault, not_toml, missing, wrong, unknown_name, out_of_range, bad_layout}
 
--- the error is the fault that was read; want of memory may come at any time, and never stands as a layout's error
+-- the error is the fault that was read; out of memory may come at any time, and is never a layout's error
 abbrev pub Fails : {Y : Type 0} → PlanError → Result Y Fault → Type 0
 Fails Memory read = Unit {0}
 Fails NotToml read = read ≡ Err not_toml

@@ -133,7 +133,7 @@ fn channel(
     })
 }
 
-/// The channels that these tables tell of.
+/// The channels that these tables describe.
 fn each_channel(alloc: Global, tables: &[Value]) -> Result<Vec<ChannelPlan>, PlanError>
     ensures value { Gives (λ v. map channel_view v.items) result (each channel_of 1 [] (map view tables.now)) }
     ensures len { IfOk result (λ v. length v.items ≡ length tables.now) }

@@ -207,7 +207,7 @@ fn device(
     Ok(DevicePlan { path, kind })
 }
 
-/// The devices that these tables tell of.
+/// The devices that these tables describe.
 fn each_device(
     alloc: Global,
     displays: usize,

@@ -50,7 +50,7 @@ fn rotation(alloc: Global, place: Place, key: &str, value: &Value) -> Result<Rot
     }
 }
 
-/// A display of which the table at this place tells.
+/// The display that the table at this place describes.
 #[tactic(auto, unfolding(crate::specs::Display::display_of))]
 fn display_of(alloc: Global, place: Place, table: &Value) -> Result<Display, PlanError>
     ensures value { Gives (λ d. d) result (display_of place (view table.now)) }
@@ -84,7 +84,7 @@ fn display(alloc: Global, document: &Value) -> Result<Display, PlanError>
     display_of(alloc, Place::Display, table)
 }
 
-/// The displays that these tables tell of, from display 1 on.
+/// The displays that these tables describe, from display 1 on.
 fn each_display(alloc: Global, tables: &[Value]) -> Result<Vec<Display>, PlanError>
     ensures value { Gives
         (λ v. v.items) result (each (λ k found d. display_of (ExtraDisplay k) d) 1 [] (map view tables.now)) }

@@ -24,7 +24,7 @@ pub enum PlanError {
     /// A number, or the number of an array's entries, is outside its range.
     OutOfRange { key: String, value: i64 },
 
-    /// The key layout of this device is refused; the error is never want of memory.
+    /// The key layout of this device is refused; the error is never out of memory.
     BadLayout { device: u8, error: LayoutError },
 
     /// Want of memory.

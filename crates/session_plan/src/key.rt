@@ -6,7 +6,7 @@ use std::alloc::{AllocError, Global};
 
 /// A table of a session file. Entries of arrays of tables are counted from 1; a window is that of a step.
 #[derive(Clone, Copy)]
-pub(crate) enum Place {
+pub enum Place {
     Document,
     Display,
     ExtraDisplay(usize),

@@ -82,4 +82,5 @@ mod trust;
 mod window;
 
 pub use error::PlanError;
+pub use key::Place;
 pub use plan::{Act, ChannelPlan, DeviceKind, DevicePlan, Display, Plan, Step};

@@ -175,7 +175,7 @@ fn step(
     })
 }
 
-/// The steps that these tables tell of.
+/// The steps that these tables describe.
 fn each_step(
     alloc: Global,
     channels: &[ChannelPlan],

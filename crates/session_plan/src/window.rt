@@ -74,7 +74,7 @@ fn window(
     })
 }
 
-/// The windows of step k that these tables tell of.
+/// The windows of step k that these tables describe.
 fn each_window(
     alloc: Global,
     channels: &[ChannelPlan],

@@ -1,4 +1,5 @@
 pub mod Names
 pub mod Lines
 pub mod Session
+pub mod Pruned
 pub mod Laws

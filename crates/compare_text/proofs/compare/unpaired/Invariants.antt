@@ -1,7 +1,6 @@
 use Rattle.std.proofs.Common.{◌≡◌, drop, map}
-use Rattle.compare_text.specs.Compared.{first_new}
 use Rattle.compare_text.specs.Indexed.{seen}
-use Rattle.compare_text.specs.Pairing.{left_from}
+use Rattle.compare_text.specs.Pairing.{first_new, left_from}
 use Rattle.compare_text.proofs.compare.unpaired.Given as goal
 
 -- the first one of the remaining sections is that of all

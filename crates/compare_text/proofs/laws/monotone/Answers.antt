@@ -1,5 +1,5 @@
-use Rattle.compare_text.proofs.Sameness.{more_same}
+use Rattle.compare_text.proofs.Matching.{monotone_law}
 use Rattle.compare_text.proofs.laws.monotone.Goals as goal
 
 pub returns : goal.returns
-returns c = more_same
+returns c = monotone_law
