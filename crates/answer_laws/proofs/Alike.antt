@@ -2,6 +2,7 @@
 use Rattle.std.proofs.Common.{◌≡◌, ℕ, Bool, true, false, List, [], ◌∷◌, nat_le, length, cond, Option, Some, None, Result, Ok, Err, refl, sym, subst, inl, inr, codes}
 use Rattle.std.specs.Prelude.{◌⊎◌}
 use Rattle.std.specs.Option.{IsSomeAnd}
+use Rattle.outside_io.specs.Trace.{Stage, at_end, failed, going}
 use Rattle.outside_io.specs.Outside.{bytes_of}
 use Rattle.raw_events.specs.Recording.{lines_of}
 use Rattle.raw_events.specs.declared.event.RawEvent.{RawEvent}
@@ -9,7 +10,7 @@ use Rattle.session_plan.specs.Plan.{PlanData}
 use Rattle.unread_keys.specs.Session.{unread_text}
 use Rattle.command_files.specs.Devices.{devices_of}
 use Rattle.command_files.specs.Inputs.{events_file, session_file}
-use Rattle.command_files.specs.Judged.{After, Answer, Ends, FileKind, Origin, Reads, beside, by_log, by_name, judged, with_more}
+use Rattle.command_files.specs.Judged.{After, Answer, Ends, FileKind, Origin, Reads, beside, by_log, by_name, judged, judged_at, with_more}
 use Rattle.command_files.specs.Refused.{Refused, too_long}
 use Rattle.command_answers.specs.Inspect.{CountsAnswer, InspectAnswers}
 use Rattle.command_answers.specs.Replay.{RecordingAnswers, RunAnswers}
@@ -23,6 +24,13 @@ judged_more kind more bytes = by_length (nat_le (length bytes) kind.limit)
     by_length : (b : Bool) → cond b (beside (kind.rule bytes) (more bytes)) (Err (too_long kind.what)) ≡ beside (cond b (kind.rule bytes) (Err (too_long kind.what))) (more bytes)
     by_length true = refl
     by_length false = refl
+
+-- nor how a reading of it is
+staged_more : {A B : Type 0} (kind : FileKind A) (more : List ℕ → B) (stage : Stage) (bytes : List ℕ)
+    → judged_at (with_more kind more) stage bytes ≡ beside (judged_at kind stage bytes) (more bytes)
+staged_more kind more failed bytes = refl
+staged_more kind more at_end bytes = judged_more kind more bytes
+staged_more kind more going bytes = judged_more kind more bytes
 
 -- a refusal behind one judgement is one behind the other, or this is so
 abbrev Carries : (Answer → Type 0) → (Answer → Type 0) → Type 0 → Refused → Type 0
@@ -64,9 +72,9 @@ reads_more (by_name entries) name kind more Next With Or r f =
     (after_more (judged kind bytes) (more bytes) (by_name entries) Next With Or r (λ x. f (by_name entries) x (more bytes))))
 reads_more (by_log []) name kind more Next With Or r f = λ h. absurd h
 reads_more (by_log (one ∷ rs)) name kind more Next With Or r f =
-    log_carries (one.name ≡ name) _ (After Next (by_log rs) (judged kind one.given)) (After With (by_log rs) (judged (with_more kind more) one.given)) Or r
-    (subst (λ z. Carries (After Next (by_log rs) (judged kind one.given)) (After With (by_log rs) z) Or r) (sym (judged_more kind more one.given))
-    (after_more (judged kind one.given) (more one.given) (by_log rs) Next With Or r (λ x. f (by_log rs) x (more one.given))))
+    log_carries (one.name ≡ name) _ (After Next (by_log rs) (judged_at kind one.stage one.given)) (After With (by_log rs) (judged_at (with_more kind more) one.stage one.given)) Or r
+    (subst (λ z. Carries (After Next (by_log rs) (judged_at kind one.stage one.given)) (After With (by_log rs) z) Or r) (sym (staged_more kind more one.stage one.given))
+    (after_more (judged_at kind one.stage one.given) (more one.given) (by_log rs) Next With Or r (λ x. f (by_log rs) x (more one.given))))
 
 reads_less : {A B : Type 0} (from : Origin) (name : List ℕ) (kind : FileKind A) (more : List ℕ → B) (Next : Origin → A → Answer → Type 0)
     (With : Origin → A × B → Answer → Type 0) (Or : Type 0) (r : Refused)
@@ -78,9 +86,9 @@ reads_less (by_name entries) name kind more Next With Or r f =
     (after_less (judged kind bytes) (more bytes) (by_name entries) Next With Or r (λ x. f (by_name entries) x (more bytes))))
 reads_less (by_log []) name kind more Next With Or r f = λ h. absurd h
 reads_less (by_log (one ∷ rs)) name kind more Next With Or r f =
-    log_carries (one.name ≡ name) _ (After With (by_log rs) (judged (with_more kind more) one.given)) (After Next (by_log rs) (judged kind one.given)) Or r
-    (subst (λ z. Carries (After With (by_log rs) z) (After Next (by_log rs) (judged kind one.given)) Or r) (sym (judged_more kind more one.given))
-    (after_less (judged kind one.given) (more one.given) (by_log rs) Next With Or r (λ x. f (by_log rs) x (more one.given))))
+    log_carries (one.name ≡ name) _ (After With (by_log rs) (judged_at (with_more kind more) one.stage one.given)) (After Next (by_log rs) (judged_at kind one.stage one.given)) Or r
+    (subst (λ z. Carries (After With (by_log rs) z) (After Next (by_log rs) (judged_at kind one.stage one.given)) Or r) (sym (staged_more kind more one.stage one.given))
+    (after_less (judged_at kind one.stage one.given) (more one.given) (by_log rs) Next With Or r (λ x. f (by_log rs) x (more one.given))))
 
 -- the two ends
 abbrev TooLong : Refused → Type 0

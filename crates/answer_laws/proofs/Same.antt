@@ -4,7 +4,7 @@ use Rattle.std.specs.Option.{IsSomeAnd}
 use Rattle.outside_io.specs.Outside.{bytes_of}
 use Rattle.command_files.specs.Devices.{devices_of}
 use Rattle.command_files.specs.Inputs.{events_file, session_file}
-use Rattle.command_files.specs.Judged.{After, Answer, Ends, FileKind, Origin, Reads, by_log, by_name, judged}
+use Rattle.command_files.specs.Judged.{After, Answer, Ends, FileKind, Origin, Reads, by_log, by_name, judged, judged_at}
 use Rattle.command_files.specs.Refused.{Refused}
 use Rattle.command_answers.specs.Replay.{RecordingAnswers, RunAnswers}
 use Rattle.command_answers.specs.Why.{CausesAnswer, WhyAnswers}
@@ -27,7 +27,7 @@ reads_same (by_name entries) name kind Next With r f h =
     (λ bytes k. after_same (judged kind bytes) (by_name entries) Next With r (f (by_name entries)) k) h
 reads_same (by_log []) name kind Next With r f h = h
 reads_same (by_log (one ∷ rs)) name kind Next With r f h =
-    (h.0, (h.1.0, after_same (judged kind one.given) (by_log rs) Next With r (f (by_log rs)) h.1.1))
+    (h.0, (h.1.0, after_same (judged_at kind one.stage one.given) (by_log rs) Next With r (f (by_log rs)) h.1.1))
 
 pub why_refuses : WhyRefuses
 why_refuses from files r = (

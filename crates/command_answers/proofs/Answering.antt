@@ -1,5 +1,6 @@
 -- Why a stream file has no batches, is not whole or differs, and what is written as a recording.
 use Rattle.std.proofs.Common.{ℕ, List, Ok, Err, ap, refl}
+use Rattle.compare_text.specs.declared.comparison.Comparison.{Comparison}
 use Rattle.compare_text.specs.declared.error.CompareError.{CompareError}
 use Rattle.compare_text.specs.declared.error.CompareError.TheVariants as compare
 use Rattle.compare_text.specs.Compared.{compared, Refuses as CompareRefuses}
@@ -35,14 +36,14 @@ judge_refused bytes judge.Nothing h = ap whole_answer h
 judge_refused bytes judge.Memory h = tt
 
 -- one that differs from another is refused so
-pub compare_refused : (us pixels : ℕ) (want got : List Section) (e : CompareError) → CompareRefuses (compared us pixels want got) e
-    → RefusesSo (λ r. SameAnswers us pixels want got (Err r)) (refusal_of_compare e)
-compare_refused us pixels want got (compare.Differs w g) h = ap same_answer h
-compare_refused us pixels want got (compare.Missing w) h = ap same_answer h
-compare_refused us pixels want got (compare.Added g) h = ap same_answer h
-compare_refused us pixels want got (compare.NoSection w) h = ap same_answer h
-compare_refused us pixels want got (compare.NewSection g) h = ap same_answer h
-compare_refused us pixels want got compare.Memory h = tt
+pub compare_refused : (rule : Comparison) (want got : List Section) (e : CompareError) → CompareRefuses (compared rule want got) e
+    → RefusesSo (λ r. SameAnswers rule want got (Err r)) (refusal_of_compare e)
+compare_refused rule want got (compare.Differs w g what) h = ap same_answer h
+compare_refused rule want got (compare.Missing w) h = ap same_answer h
+compare_refused rule want got (compare.Added g) h = ap same_answer h
+compare_refused rule want got (compare.NoSection w) h = ap same_answer h
+compare_refused rule want got (compare.NewSection g) h = ap same_answer h
+compare_refused rule want got compare.Memory h = tt
 
 -- what is written as a recording, and why a stream is not
 pub emit_answered : (channel device : ℕ) (bytes text : List ℕ) → IsEmitted bytes channel device (Ok text) → EmitAnswers channel device bytes (Ok text)

@@ -64,6 +64,6 @@ refuses_events what p bytes (Recording e) h =
     subst (λ (x : Result (List RawEvent) LineError). Behind (RunSends what p) (lines_judged x) (Err (refusal_view (Recording e)))) (sym h) refl
 refuses_events what p bytes (Order e) h = absurd h
 refuses_events what p bytes (Stream e) h = absurd h
-refuses_events what p bytes ReadFailed h = absurd h
+refuses_events what p bytes (ReadFailed file) h = absurd h
 refuses_events what p bytes NoMemory h = tt
 refuses_events what p bytes (TooLong subject) h = absurd h

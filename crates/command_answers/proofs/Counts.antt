@@ -38,6 +38,6 @@ counts_refused session bytes (Recording e) h =
     subst (λ (x : Result (List RawEvent) LineError). Answered session bytes x (Err (refusal_view (Recording e)))) (sym h) refl
 counts_refused session bytes (Order e) h = absurd h
 counts_refused session bytes (Stream e) h = absurd h
-counts_refused session bytes ReadFailed h = absurd h
+counts_refused session bytes (ReadFailed file) h = absurd h
 counts_refused session bytes NoMemory h = tt
 counts_refused session bytes (TooLong what) h = absurd h

@@ -13,5 +13,6 @@ pub mod RaceTexts
 pub mod Streams
 pub mod Ties
 pub mod Told
+pub mod Unfailed
 pub mod WholeRun
 pub mod WorkRuns

@@ -1,5 +1,6 @@
 -- What `compare` answers for two stream files.
-use Rattle.std.specs.Prelude.{◌≡◌, ℕ, List, Result, Ok, Err}
+use Rattle.std.specs.Prelude.{◌≡◌, ℕ, Bool, List, Option, Result, Ok, Err}
+use Rattle.compare_text.specs.declared.comparison.Comparison.{Comparison}
 use Rattle.compare_text.specs.declared.error.CompareError.{CompareError}
 use Rattle.compare_text.specs.declared.error.CompareError.TheVariants.{Differs, Missing, Added, NoSection, NewSection, Memory}
 use Rattle.compare_text.specs.Compared.{compared}
@@ -16,17 +17,26 @@ abbrev pub same_answer : Result (List ℕ) CompareError → Answer
 same_answer (Ok text) = Ok text
 same_answer (Err error) = Err (not_same error)
 
--- whether actual sections agree with the expected ones, within so many microseconds and pixels
-abbrev pub SameAnswers : ℕ → ℕ → List Section → List Section → Answer → Type 0
-SameAnswers us pixels want got a = same_answer (compared us pixels want got) ≡ a
+-- what the options of `compare` ask for
+abbrev pub comparison : (us pixels : ℕ) → (want_channel got_channel : Option ℕ) → (each_move : Bool) → Comparison
+comparison us pixels want_channel got_channel each_move = record {
+  tolerance = record { us = us; pixels = pixels };
+  want_channel = want_channel;
+  got_channel = got_channel;
+  each_move = each_move;
+}
+
+-- whether actual sections agree with the expected ones
+abbrev pub SameAnswers : Comparison → (want got : List Section) → Answer → Type 0
+SameAnswers rule want got a = same_answer (compared rule want got) ≡ a
 
 -- the answer once the expected streams are accepted: the actual ones are judged, and then compared with them
-abbrev pub GotAnswers : List ℕ → ℕ → ℕ → Origin → List Section → Answer → Type 0
-GotAnswers got us pixels from want a = Reads from got got_file (λ rest came. Ends (SameAnswers us pixels want came) rest) a
+abbrev pub GotAnswers : List ℕ → Comparison → Origin → List Section → Answer → Type 0
+GotAnswers got rule from want a = Reads from got got_file (λ rest came. Ends (SameAnswers rule want came) rest) a
 
 -- the refusal for streams that are compared
 abbrev pub refusal_of_compare : CompareError → Refusal
-refusal_of_compare (Differs want got) = refusal.Stream (stream.NotSame (Differs want got))
+refusal_of_compare (Differs want got what) = refusal.Stream (stream.NotSame (Differs want got what))
 refusal_of_compare (Missing want) = refusal.Stream (stream.NotSame (Missing want))
 refusal_of_compare (Added got) = refusal.Stream (stream.NotSame (Added got))
 refusal_of_compare (NoSection want) = refusal.Stream (stream.NotSame (NoSection want))

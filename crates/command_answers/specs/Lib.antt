@@ -8,6 +8,7 @@ pub mod Hover
 pub mod Inspect
 pub mod Judge
 pub mod Judging
+pub mod Page
 pub mod Plan
 pub mod Program
 pub mod Race

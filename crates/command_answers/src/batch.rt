@@ -6,7 +6,7 @@ ghost use Rattle.command_answers.specs.Batch.{BatchAnswers, refusal_of_file};
 ghost use Rattle.command_answers.specs.Program.{Answers, RefusesCommand};
 
 use batch_text::batch_text;
-use command_files::{Refusal, StreamError, read_stream};
+use command_files::{Input, Refusal, StreamError, read_stream};
 use outside_io::Files;
 use std::alloc::Global;
 use stream_judge::FileError;
@@ -55,6 +55,6 @@ pub fn answer_batch<F: Files>(
     ensures entries { F.entries files.new ≡ F.entries files.old }
     ensures names { F.lends files.new ≡ F.lends files.old }
 {
-    let bytes = read_stream(alloc, files, name)?;
+    let bytes = read_stream(alloc, files, name, Input::Stream)?;
     batches_of(alloc, &bytes, frame)
 }

@@ -1,4 +1,4 @@
-//! `compare`: whether actual streams agree with expected ones, within tolerances of time and position.
+//! `compare`: whether actual streams agree with expected ones, within tolerances of time and position, and by how much.
 ghost use Rattle.std.specs.Prelude.{◌≡◌, ◌≤◌, [], ◌∷◌, ⊤, IsTrue, None, Ok, Err, IfOk, IfErr};
 ghost use Rattle.command_words.specs.Command.{compare};
 ghost use Rattle.compare_text.specs.Indexed.{file_sections};
@@ -12,8 +12,8 @@ ghost use Rattle.command_answers.specs.Compare.{GotAnswers, SameAnswers, refusal
 ghost use Rattle.command_answers.specs.Sides.{bad_line_of};
 ghost use Rattle.command_answers.specs.Program.{Answers, RefusesCommand};
 
-use command_files::{Refusal, StreamError, read_stream};
-use compare_text::{CompareError, Sections, Tolerance, compare_text};
+use command_files::{Input, Refusal, StreamError, read_stream};
+use compare_text::{CompareError, Comparison, Sections, compare_text};
 use outside_io::Files;
 use std::alloc::Global;
 use text_pieces::Pieces;
@@ -66,12 +66,12 @@ fn compared(
     alloc: Global,
     want: &Sections<'_>,
     got: &Sections<'_>,
-    tolerance: Tolerance,
+    rule: Comparison,
 ) -> Result<Pieces, Refusal>
-    ensures ok { IfOk result (λ text. SameAnswers tolerance.us tolerance.pixels want.now got.now (Ok text)) }
-    ensures err { IfErr result (RefusesSo (λ r. SameAnswers tolerance.us tolerance.pixels want.now got.now (Err r))) }
+    ensures ok { IfOk result (λ text. SameAnswers rule want.now got.now (Ok text)) }
+    ensures err { IfErr result (RefusesSo (λ r. SameAnswers rule want.now got.now (Err r))) }
 {
-    match compare_text(alloc, want, got, tolerance) {
+    match compare_text(alloc, want, got, &rule) {
         Ok(text) => Ok(Pieces::of(alloc, text)),
         Err(error) => Err(compare_refusal(error)),
     }
@@ -83,17 +83,17 @@ fn answer_got<F: Files>(
     files: &mut F,
     want: &Sections<'_>,
     name: &str,
-    tolerance: Tolerance,
+    rule: Comparison,
 ) -> Result<Pieces, Refusal>
     requires lends { IsTrue (F.lends files.old name.now) }
     requires free { F.lent files.old ≡ None }
     ensures ok { IfOk result (λ text. Logged (F.entries files.old) (F.readings files.old) (F.readings files.new)
         ((name.now, stream_limit) ∷ [])
-        (λ rs. GotAnswers name.now tolerance.us tolerance.pixels (by_log rs) want.now (Ok text))) }
+        (λ rs. GotAnswers name.now rule (by_log rs) want.now (Ok text))) }
     ensures err { IfErr result (RefusesBy
         (λ x. Logged (F.entries files.old) (F.readings files.old) (F.readings files.new)
         ((name.now, stream_limit) ∷ [])
-        (λ rs. GotAnswers name.now tolerance.us tolerance.pixels (by_log rs) want.now (Err x)))
+        (λ rs. GotAnswers name.now rule (by_log rs) want.now (Err x)))
         (Logged (F.entries files.old) (F.readings files.old) (F.readings files.new)
         ((name.now, stream_limit) ∷ []) (λ rs. ⊤)) (F.faults files.old) (F.faults files.new)) }
     ensures later { F.faults files.old ≤ F.faults files.new }
@@ -101,9 +101,9 @@ fn answer_got<F: Files>(
     ensures entries { F.entries files.new ≡ F.entries files.old }
     ensures names { F.lends files.new ≡ F.lends files.old }
 {
-    let bytes = read_stream(alloc, files, name)?;
+    let bytes = read_stream(alloc, files, name, Input::Got)?;
     let got = sections_in(alloc, &bytes, Side::Got)?;
-    compared(alloc, want, &got, tolerance)
+    compared(alloc, want, &got, rule)
 }
 
 /// Reads and judges two stream files, the expected one first, and makes the text.
@@ -112,21 +112,23 @@ pub fn answer_compare<F: Files>(
     files: &mut F,
     want: &str,
     got: &str,
-    tolerance: Tolerance,
+    rule: Comparison,
 ) -> Result<Pieces, Refusal>
     requires want { IsTrue (F.lends files.old want.now) }
     requires got { IsWant (F.entries files.old) want.now → IsTrue (F.lends files.old got.now) }
     requires free { F.lent files.old ≡ None }
     ensures ok { IfOk result (λ text. Answers (F.entries files.old) (F.readings files.old) (F.readings files.new)
-        (compare want.now got.now tolerance.us tolerance.pixels) (Ok text)) }
+        (compare want.now got.now rule.tolerance.us rule.tolerance.pixels rule.want_channel rule.got_channel
+        rule.each_move) (Ok text)) }
     ensures err { IfErr result (RefusesCommand (F.entries files.old) (F.readings files.old) (F.readings files.new)
-        (compare want.now got.now tolerance.us tolerance.pixels) (F.faults files.old) (F.faults files.new)) }
+        (compare want.now got.now rule.tolerance.us rule.tolerance.pixels rule.want_channel rule.got_channel
+        rule.each_move) (F.faults files.old) (F.faults files.new)) }
     ensures later { F.faults files.old ≤ F.faults files.new }
     ensures free { F.lent files.new ≡ None }
     ensures entries { F.entries files.new ≡ F.entries files.old }
     ensures names { F.lends files.new ≡ F.lends files.old }
 {
-    let bytes = read_stream(alloc, files, want)?;
+    let bytes = read_stream(alloc, files, want, Input::Want)?;
     let sections = sections_in(alloc, &bytes, Side::Want)?;
-    answer_got(alloc, files, &sections, got, tolerance)
+    answer_got(alloc, files, &sections, got, rule)
 }

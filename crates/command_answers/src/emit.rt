@@ -6,7 +6,7 @@ ghost use Rattle.command_files.specs.Refusing.{RefusesSo};
 ghost use Rattle.command_answers.specs.Emit.{EmitAnswers, refusal_of_emit};
 ghost use Rattle.command_answers.specs.Program.{Answers, RefusesCommand};
 
-use command_files::{Refusal, StreamError, Subject, read_stream};
+use command_files::{Input, Refusal, StreamError, Subject, read_stream};
 use emit_text::{EmitError, emit_text};
 use input_types::DeviceId;
 use outside_io::Files;
@@ -63,6 +63,6 @@ pub fn answer_emit<F: Files>(
     ensures entries { F.entries files.new ≡ F.entries files.old }
     ensures names { F.lends files.new ≡ F.lends files.old }
 {
-    let bytes = read_stream(alloc, files, name)?;
+    let bytes = read_stream(alloc, files, name, Input::Stream)?;
     emitted(alloc, &bytes, channel, device)
 }

@@ -16,7 +16,7 @@ ghost use Rattle.command_answers.specs.Inspect.{CountsAnswer, InspectAnswers, se
 ghost use Rattle.command_answers.specs.Program.{Answers, RefusesCommand};
 
 use command_files::{
-    Counting, KeyedPlan, RECORDING_LIMIT, Refusal, Subject, feed_file, read_keyed_session,
+    Counting, Input, KeyedPlan, RECORDING_LIMIT, Refusal, feed_file, read_keyed_session,
     read_refusal,
 };
 use command_words::Recorded;
@@ -85,7 +85,7 @@ fn counted_text<F: Files>(
     let mut counting = Counting::new(alloc, &session.plan)?;
     match feed_file(alloc, files, name, RECORDING_LIMIT, &(), &mut counting) {
         Ok(()) => ended_text(alloc, session, counting),
-        Err(error) => Err(read_refusal(error, Subject::Recording)),
+        Err(error) => Err(read_refusal(error, Input::Recording)),
     }
 }
 

@@ -5,7 +5,7 @@ ghost use Rattle.command_files.specs.Refusing.{RefusesSo};
 ghost use Rattle.command_answers.specs.Judge.{JudgeAnswers, refusal_of_judge};
 ghost use Rattle.command_answers.specs.Program.{Answers, RefusesCommand};
 
-use command_files::{Refusal, StreamError, read_stream};
+use command_files::{Input, Refusal, StreamError, read_stream};
 use judge_text::{JudgeError, judge_text};
 use outside_io::Files;
 use std::alloc::Global;
@@ -46,6 +46,6 @@ pub fn answer_judge<F: Files>(alloc: Global, files: &mut F, name: &str) -> Resul
     ensures entries { F.entries files.new ≡ F.entries files.old }
     ensures names { F.lends files.new ≡ F.lends files.old }
 {
-    let bytes = read_stream(alloc, files, name)?;
+    let bytes = read_stream(alloc, files, name, Input::Stream)?;
     judged(alloc, &bytes)
 }

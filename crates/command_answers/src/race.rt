@@ -82,18 +82,18 @@ fn lanes_of(
 }
 
 /// Runs the lanes of a race over a core of its own.
-fn raced<R: Wait, K: Fn(Start) -> Result<RaceEnd, AllocError>>(
+fn raced<R: Wait, K: FnOnce(Start) -> Result<RaceEnd, AllocError> + Drop>(
     rt: &R,
     alloc: Global,
     displays: &Displays,
     channels: &[ChannelPlan],
     steps: Vec<Step>,
     all: Vec<Cooked>,
-    runner: &K,
+    runner: K,
 ) -> Result<RaceEnd, AllocError>
     requires few { length channels.now ≤ 64 }
-    requires runs { RunsRaces (K.pre runner.now) (λ s end. K.post runner.now s (Ok end)) }
-    ensures left { IfOk result (EndBy (λ s end. K.post runner.now s (Ok end))) }
+    requires runs { RunsRaces (K.pre runner) (λ s end. K.post runner s (Ok end)) }
+    ensures left { IfOk result (EndBy (λ s end. K.post runner s (Ok end))) }
     ensures seats { IfOk result (λ end. length end.script_seats.items ≡ 8) }
     ensures race { (until : ℕ)
         → IfOk result (EndsRace (raced_plan displays.now channels.now steps.items all.items until)) }
@@ -110,16 +110,16 @@ fn raced<R: Wait, K: Fn(Start) -> Result<RaceEnd, AllocError>>(
 }
 
 /// Runs a race, and makes the text of its order and its result.
-fn race_run<R: Wait, K: Fn(Start) -> Result<RaceEnd, AllocError>>(
+fn race_run<R: Wait, K: FnOnce(Start) -> Result<RaceEnd, AllocError> + Drop>(
     rt: &R,
     alloc: Global,
     session: Session,
     all: Vec<Cooked>,
-    runner: &K,
+    runner: K,
 ) -> Result<Pieces, Refusal>
     requires plan { IsPlan session }
-    requires runs { RunsRaces (K.pre runner.now) (λ s end. K.post runner.now s (Ok end)) }
-    ensures left { IfOk result (PrintsEnd (EndBy (λ s end. K.post runner.now s (Ok end)))) }
+    requires runs { RunsRaces (K.pre runner) (λ s end. K.post runner s (Ok end)) }
+    ensures left { IfOk result (PrintsEnd (EndBy (λ s end. K.post runner s (Ok end)))) }
     ensures ok { (past : List Event) → map cooked_of all.items ≡ given (plan_view session) past
         → IfOk result (λ text. Races (plan_view session) past (Ok text)) }
     ensures err { (past : List Event) → map cooked_of all.items ≡ given (plan_view session) past
@@ -141,16 +141,16 @@ fn race_run<R: Wait, K: Fn(Start) -> Result<RaceEnd, AllocError>>(
 }
 
 /// The text of a race of a session and the events of a recording, or why there is none.
-fn race_of<R: Wait, K: Fn(Start) -> Result<RaceEnd, AllocError>>(
+fn race_of<R: Wait, K: FnOnce(Start) -> Result<RaceEnd, AllocError> + Drop>(
     rt: &R,
     alloc: Global,
     session: Session,
     events: &[RawEvent],
-    runner: &K,
+    runner: K,
 ) -> Result<Pieces, Refusal>
     requires plan { IsPlan session }
-    requires runs { RunsRaces (K.pre runner.now) (λ s end. K.post runner.now s (Ok end)) }
-    ensures left { IfOk result (PrintsEnd (EndBy (λ s end. K.post runner.now s (Ok end)))) }
+    requires runs { RunsRaces (K.pre runner) (λ s end. K.post runner s (Ok end)) }
+    ensures left { IfOk result (PrintsEnd (EndBy (λ s end. K.post runner s (Ok end)))) }
     ensures ok { IfOk result (λ text. RaceAnswers (plan_view session) events.now (Ok text)) }
     ensures err { IfErr result (RefusesSo (λ r. RaceAnswers (plan_view session) events.now (Err r))) }
 {
@@ -160,20 +160,20 @@ fn race_of<R: Wait, K: Fn(Start) -> Result<RaceEnd, AllocError>>(
 }
 
 /// Reads and judges both files of `race`, has its lanes run, and makes the text of what they left behind.
-pub fn answer_race<R: Wait, F: Files, K: Fn(Start) -> Result<RaceEnd, AllocError>>(
+pub fn answer_race<R: Wait, F: Files, K: FnOnce(Start) -> Result<RaceEnd, AllocError> + Drop>(
     rt: &R,
     alloc: Global,
     files: &mut F,
     names: Recorded<'_>,
-    runner: &K,
+    runner: K,
 ) -> Result<Pieces, Refusal>
     requires session { IsTrue (F.lends files.old names.session.now) }
     requires events { IsAccepted (F.entries files.old) names.session.now → IsTrue (F.lends files.old names.events.now) }
     requires free { F.lent files.old ≡ None }
-    requires runs { RunsRaces (K.pre runner.now) (λ s end. K.post runner.now s (Ok end)) }
+    requires runs { RunsRaces (K.pre runner) (λ s end. K.post runner s (Ok end)) }
     ensures ok { IfOk result (λ text. Answers (F.entries files.old) (F.readings files.old) (F.readings files.new)
         (race (recorded_view names.entry)) (Ok text)) }
-    ensures left { IfOk result (PrintsEnd (EndBy (λ s end. K.post runner.now s (Ok end)))) }
+    ensures left { IfOk result (PrintsEnd (EndBy (λ s end. K.post runner s (Ok end)))) }
     ensures err { IfErr result (RefusesCommand (F.entries files.old) (F.readings files.old) (F.readings files.new)
         (race (recorded_view names.entry)) (F.faults files.old) (F.faults files.new)) }
     ensures later { F.faults files.old ≤ F.faults files.new }

@@ -24,7 +24,7 @@ ghost use Rattle.command_answers.specs.Running.{Comes, RecordingSends, RunSends,
 use crate::plan::plan_run;
 use crate::texts::text_of;
 use command_files::{
-    RECORDING_LIMIT, Recording, Refusal, Subject, feed_file, numbered_devices, read_refusal,
+    Input, RECORDING_LIMIT, Recording, Refusal, Subject, feed_file, numbered_devices, read_refusal,
     read_session, readers_of,
 };
 use command_words::Recorded;
@@ -184,7 +184,7 @@ fn recording_text<F: Files>(
     );
     match fed {
         Ok(()) => ended_text(alloc, begun, sending),
-        Err(error) => Err(read_refusal(error, Subject::Recording)),
+        Err(error) => Err(read_refusal(error, Input::Recording)),
     }
 }
 

@@ -9,7 +9,7 @@ ghost use Rattle.command_answers.specs.Judging.{Knows, Judges, break_at};
 ghost use Rattle.command_files.specs.Refusing.{RefusesSo};
 ghost use Rattle.command_answers.specs.Verify.{said, verdict};
 
-use command_files::{Refusal, StreamError, read_stream};
+use command_files::{Input, Refusal, StreamError, read_stream};
 use gesture_verifier::Verifier;
 use input_types::Message;
 use outside_io::Files;
@@ -158,6 +158,6 @@ pub fn answer_verify<F: Files>(alloc: Global, files: &mut F, name: &str) -> Resu
     ensures entries { F.entries files.new ≡ F.entries files.old }
     ensures names { F.lends files.new ≡ F.lends files.old }
 {
-    let bytes = read_stream(alloc, files, name)?;
+    let bytes = read_stream(alloc, files, name, Input::Stream)?;
     verdict_of(alloc, &bytes)
 }

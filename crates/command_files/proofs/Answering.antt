@@ -21,6 +21,6 @@ so_map P Q (Session e) f h = f (refusal_view (Session e)) h
 so_map P Q (Recording e) f h = f (refusal_view (Recording e)) h
 so_map P Q (Order e) f h = f (refusal_view (Order e)) h
 so_map P Q (Stream e) f h = f (refusal_view (Stream e)) h
-so_map P Q ReadFailed f h = absurd h
+so_map P Q (ReadFailed file) f h = absurd h
 so_map P Q NoMemory f h = tt
 so_map P Q (TooLong what) f h = f (refusal_view (TooLong what)) h

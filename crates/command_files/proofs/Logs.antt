@@ -1,13 +1,13 @@
 -- The log of a call, file by file, and the answer that goes with it.
-use Rattle.std.proofs.Common.{◌≡◌, ◌∙◌, ◌≤◌, ℕ, List, [], ◌∷◌, ◌++◌, Option, Result, Ok, Err, refl, sym, ap, subst, append_assoc, append-nil, inl, inr, arith}
-use Rattle.outside_io.specs.Trace.{Reading}
+use Rattle.std.proofs.Common.{◌≡◌, ◌∙◌, ◌≤◌, ◌≢◌, ℕ, List, [], ◌∷◌, ◌++◌, Option, Result, Ok, Err, refl, sym, ap, subst, append_assoc, append-nil, inl, inr, arith}
+use Rattle.outside_io.specs.Trace.{Reading, failed}
 use Rattle.outside_io.specs.Outside.{Entry, bytes_of}
 use Rattle.command_files.specs.declared.refusal.Refusal.{Refusal}
 use Rattle.command_files.specs.declared.refusal.Refusal.TheVariants.{Session, Recording, Order, Stream, ReadFailed, NoMemory, TooLong}
-use Rattle.command_files.specs.Judged.{After, Answer, Behind, Ends, FileKind, Origin, Reads, by_log, by_name, judged}
-use Rattle.command_files.specs.Logged.{Agrees, AllAgree, IsRead, Logged, OneRead, RefusesBy, RefusesFile}
+use Rattle.command_files.specs.Judged.{After, Answer, Behind, Ends, FileKind, GaveEnough, IsEnough, OfContents, Origin, Reads, by_log, by_name, judged, judged_at}
+use Rattle.command_files.specs.Logged.{Agrees, AllAgree, IsRead, Logged, NoneFailed, OneRead, RefusesBy, RefusesFile}
 use Rattle.command_files.specs.ReadErrors.{WithFile}
-use Rattle.command_files.specs.Refused.{Refused}
+use Rattle.command_files.specs.Refused.{Refused, read_failed}
 use Rattle.command_files.specs.RefusalView.{refusal_view}
 use Rattle.command_files.specs.Refusing.{RefusesSo}
 use Rattle.command_files.proofs.Answering.{told_both, told_map}
@@ -38,20 +38,20 @@ log_one told before now name limit files P Q one h =
     record {
       readings = one.reading ∷ [];
       grown = one.grown;
-      in_turn = (one.named, (one.bound, tt));
+      in_turn = (one.named, (one.bound, ((λ e. refl), tt)));
       agree = told_map told (λ es. Agrees (bytes_of es one.reading.name) one.reading) (λ es. AllAgree es (one.reading ∷ [])) (λ es a. (a, tt)) one.agrees;
       holds = h;
     }
 
 -- one file was read, and then others
 pub log_more : (told : Option (List Entry)) (before mid now : List Reading) (name : List ℕ) (limit : ℕ) (files : List (List ℕ × ℕ)) (P : Reading → Type 0)
-    (R Q : List Reading → Type 0) (one : OneRead told before mid name limit P) (log : Logged told mid now files R) → Q (one.reading ∷ log.readings)
+    (R Q : List Reading → Type 0) (one : OneRead told before mid name limit P) (log : Logged told mid now files R) → one.reading.stage ≢ failed → Q (one.reading ∷ log.readings)
     → Logged told before now ((name, limit) ∷ files) Q
-log_more told before mid now name limit files P R Q one log h =
+log_more told before mid now name limit files P R Q one log well h =
     record {
       readings = one.reading ∷ log.readings;
       grown = log.grown ∙ ap (λ (rs : List Reading). rs ++ log.readings) one.grown ∙ append_assoc before (one.reading ∷ []) log.readings;
-      in_turn = (one.named, (one.bound, log.in_turn));
+      in_turn = (one.named, (one.bound, ((λ e. absurd (well e)), log.in_turn)));
       agree = told_both told (λ es. Agrees (bytes_of es one.reading.name) one.reading) (λ es. AllAgree es log.readings)
           (λ es. AllAgree es (one.reading ∷ log.readings)) (λ es a b. (a, b)) one.agrees log.agree;
       holds = h;
@@ -73,7 +73,12 @@ pub file_stops : {A : Type 0} (told : Option (List Entry)) (before now : List Re
     → Logged told before now ((name, kind.limit) ∷ files) (λ rs. Reads (by_log rs) name kind Next (Err e))
 file_stops told before now name kind files Next e one =
     log_one told before now name kind.limit files _ (λ rs. Reads (by_log rs) name kind Next (Err e)) one
-    (one.named, (one.holds.0, stop_after (judged kind one.reading.given) e Next one.holds.1))
+    (one.named, (one.holds.0, stop_after (judged_at kind one.reading.stage one.reading.given) e Next one.holds.1))
+
+-- a reading that is accepted did not fail
+pub accepted_well : {A : Type 0} (kind : FileKind A) (r : Reading) (x : A) → judged_at kind r.stage r.given ≡ Ok x → r.stage ≢ failed
+accepted_well kind r x is =
+    λ e. let broke : judged_at kind r.stage r.given ≡ Err (read_failed kind.file) = ap (λ s. judged_at kind s r.given) e in cc (is, broke)
 
 -- after an accepted one, reading goes on
 pub file_goes : {A : Type 0} (told : Option (List Entry)) (before mid now : List Reading) (name : List ℕ) (kind : FileKind A) (files : List (List ℕ × ℕ))
@@ -82,7 +87,8 @@ pub file_goes : {A : Type 0} (told : Option (List Entry)) (before mid now : List
     → Logged told before now ((name, kind.limit) ∷ files) (λ rs. Reads (by_log rs) name kind Next a)
 file_goes told before mid now name kind files x Next a one log =
     log_more told before mid now name kind.limit files _ (λ rs. Next (by_log rs) x a) (λ rs. Reads (by_log rs) name kind Next a) one log
-    (one.named, (one.holds.0, then_after (judged kind one.reading.given) x Next (by_log log.readings) a one.holds.1 log.holds))
+    (accepted_well kind one.reading x one.holds.1)
+    (one.named, (one.holds.0, then_after (judged_at kind one.reading.stage one.reading.given) x Next (by_log log.readings) a one.holds.1 log.holds))
 
 -- the last file is accepted, and this is the answer
 pub last_file : {A : Type 0} (told : Option (List Entry)) (before now : List Reading) (name : List ℕ) (kind : FileKind A) (x : A) (Is : A → Answer → Type 0) (a : Answer)
@@ -99,8 +105,9 @@ file_fed told before now name kind Done Is a one h =
     log_one told before now name kind.limit [] _ (λ rs. Reads (by_log rs) name kind (λ rest y. Ends (Is y) rest) a) one (
       one.named,
       (
-        inl (one.holds.0, one.holds.1.0),
-        subst (λ z. After (λ rest y. Ends (Is y) rest) (by_log []) z a) (sym (judged_within kind one.reading.given one.holds.1.0))
+        inr (inl (one.holds.0, one.holds.1.0)),
+        subst (λ z. After (λ rest y. Ends (Is y) rest) (by_log []) z a)
+            (sym (ap (λ s. judged_at kind s one.reading.given) one.holds.0 ∙ judged_within kind one.reading.given one.holds.1.0))
             (behind_after (kind.rule one.reading.given) Is a h),
       ),
     )
@@ -111,10 +118,11 @@ pub any_log : (told : Option (List Entry)) (before now : List Reading) (name : L
 any_log told before now name limit files P one = log_one told before now name limit files P (λ rs. Unit {0}) one tt
 
 -- files were read, the first of which was accepted
-pub more_log : (told : Option (List Entry)) (before mid now : List Reading) (name : List ℕ) (limit : ℕ) (files : List (List ℕ × ℕ)) (P : Reading → Type 0)
-    (R : List Reading → Type 0) → OneRead told before mid name limit P → Logged told mid now files R
-    → Logged told before now ((name, limit) ∷ files) (λ rs. Unit {0})
-more_log told before mid now name limit files P R one log = log_more told before mid now name limit files P R (λ rs. Unit {0}) one log tt
+pub more_log : {A : Type 0} (told : Option (List Entry)) (before mid now : List Reading) (name : List ℕ) (kind : FileKind A) (files : List (List ℕ × ℕ)) (x : A)
+    (R : List Reading → Type 0) → IsRead told before mid name kind (Ok x) → Logged told mid now files R
+    → Logged told before now ((name, kind.limit) ∷ files) (λ rs. Unit {0})
+more_log told before mid now name kind files x R one log =
+    log_more told before mid now name kind.limit files _ R (λ rs. Unit {0}) one log (accepted_well kind one.reading x one.holds.1) tt
 
 -- why a command has no answer, where a file is not accepted
 pub file_by : {A : Type 0} (told : Option (List Entry)) (before now : List Reading) (name : List ℕ) (kind : FileKind A) (files : List (List ℕ × ℕ))
@@ -125,7 +133,7 @@ file_by told before now name kind files Next fb fn (Session e) h = file_stops to
 file_by told before now name kind files Next fb fn (Recording e) h = file_stops told before now name kind files Next _ h
 file_by told before now name kind files Next fb fn (Order e) h = file_stops told before now name kind files Next _ h
 file_by told before now name kind files Next fb fn (Stream e) h = file_stops told before now name kind files Next _ h
-file_by told before now name kind files Next fb fn ReadFailed h = (h.0, any_log told before now name kind.limit files _ h.1)
+file_by told before now name kind files Next fb fn (ReadFailed file) h = (h.0, file_stops told before now name kind files Next _ h.1)
 file_by told before now name kind files Next fb fn NoMemory (inl same) = log_same told before now ((name, kind.limit) ∷ files) (λ rs. Unit {0}) same tt
 file_by told before now name kind files Next fb fn NoMemory (inr one) = any_log told before now name kind.limit files _ one
 file_by told before now name kind files Next fb fn (TooLong what) h = file_stops told before now name kind files Next _ h
@@ -141,7 +149,7 @@ by_map P Q Read More fb fm fn (Session e) le f m h = f (refusal_view (Session e)
 by_map P Q Read More fb fm fn (Recording e) le f m h = f (refusal_view (Recording e)) h
 by_map P Q Read More fb fm fn (Order e) le f m h = f (refusal_view (Order e)) h
 by_map P Q Read More fb fm fn (Stream e) le f m h = f (refusal_view (Stream e)) h
-by_map P Q Read More fb fm fn ReadFailed le f m h = (omega (arith, le, h.0), m h.1)
+by_map P Q Read More fb fm fn (ReadFailed file) le f m h = (omega (arith, le, h.0), f (refusal_view (ReadFailed file)) h.1)
 by_map P Q Read More fb fm fn NoMemory le f m h = m h
 by_map P Q Read More fb fm fn (TooLong what) le f m h = f (refusal_view (TooLong what)) h
 
@@ -151,7 +159,7 @@ so_by P Q More fb fn (Session e) f m h = f (refusal_view (Session e)) h
 so_by P Q More fb fn (Recording e) f m h = f (refusal_view (Recording e)) h
 so_by P Q More fb fn (Order e) f m h = f (refusal_view (Order e)) h
 so_by P Q More fb fn (Stream e) f m h = f (refusal_view (Stream e)) h
-so_by P Q More fb fn ReadFailed f m h = absurd h
+so_by P Q More fb fn (ReadFailed file) f m h = absurd h
 so_by P Q More fb fn NoMemory f m h = m
 so_by P Q More fb fn (TooLong what) f m h = f (refusal_view (TooLong what)) h
 
@@ -171,19 +179,49 @@ pub then_by : {A : Type 0} (told : Option (List Entry)) (before mid now : List R
     (Logged told before now ((name, kind.limit) ∷ files) (λ rs. Unit {0})) fb fn r
 then_by told before mid now name kind files x Next fb fm fn r le one h =
     by_map _ _ _ _ fb fm fn r le (λ e log. file_goes told before mid now name kind files x Next (Err e) one log)
-    (λ log. more_log told before mid now name kind.limit files _ _ one log) h
+    (λ log. more_log told before mid now name kind files x _ one log) h
 
 after_told : {A : Type 0} (es : List Entry) (rs : List Reading) (y : Result A Refused) (Next : Origin → A → Answer → Type 0) (a : Answer)
     → ((x : A) → Next (by_log rs) x a → Next (by_name es) x a) → After Next (by_log rs) y a → After Next (by_name es) y a
 after_told es rs (Ok x) Next a f h = f x h
 after_told es rs (Err e) Next a f h = (h.0, tt)
 
--- what holds for what was read holds for the files, which agree with it
+gave_told : {A : Type 0} (es : List Entry) (name : List ℕ) (kind : FileKind A) (Next : Origin → A → Answer → Type 0) (r : Reading) (rs : List Reading) (a : Answer)
+    → Agrees (bytes_of es name) r → ((x : A) → Next (by_log rs) x a → Next (by_name es) x a) → OfContents a → IsEnough kind.limit r
+    → After Next (by_log rs) (judged_at kind r.stage r.given) a → Reads (by_name es) name kind Next a
+gave_told es name kind Next r rs a agree f sound (inl e) h =
+    absurd (subst OfContents (subst (λ s. After Next (by_log rs) (judged_at kind s r.given) a) e h).0 sound refl)
+gave_told es name kind Next r rs a agree f sound (inr enough) h =
+    some_map (bytes_of es name) (λ bytes. judged kind bytes ≡ judged_at kind r.stage r.given) (λ bytes. After Next (by_name es) (judged kind bytes) a)
+    (λ bytes same. subst (λ z. After Next (by_name es) z a) (sym same) (after_told es rs (judged_at kind r.stage r.given) Next a f h))
+    (enough_told kind (bytes_of es name) r agree enough)
+
+-- what holds for what was read holds for the files, which agree with it, if no file could not be read
 pub reads_told : {A : Type 0} (es : List Entry) (name : List ℕ) (kind : FileKind A) (Next : Origin → A → Answer → Type 0) (rs : List Reading) (a : Answer)
-    → AllAgree es rs → ((ys : List Reading) → AllAgree es ys → (x : A) → Next (by_log ys) x a → Next (by_name es) x a)
+    → AllAgree es rs → OfContents a → ((ys : List Reading) → AllAgree es ys → (x : A) → Next (by_log ys) x a → Next (by_name es) x a)
     → Reads (by_log rs) name kind Next a → Reads (by_name es) name kind Next a
-reads_told es name kind Next [] a agree f h = absurd h
-reads_told es name kind Next (r ∷ rs) a agree f h =
-    some_map (bytes_of es name) (λ bytes. judged kind bytes ≡ judged kind r.given) (λ bytes. After Next (by_name es) (judged kind bytes) a)
-    (λ bytes same. subst (λ z. After Next (by_name es) z a) (sym same) (after_told es rs (judged kind r.given) Next a (f rs agree.1) h.1.1))
-    (enough_told kind (bytes_of es name) r (subst (λ (n : List ℕ). Agrees (bytes_of es n) r) h.0 agree.0) h.1.0)
+reads_told es name kind Next [] a agree sound f h = absurd h
+reads_told es name kind Next (r ∷ rs) a agree sound f h =
+    gave_told es name kind Next r rs a (subst (λ (n : List ℕ). Agrees (bytes_of es n) r) h.0 agree.0) (f rs agree.1) sound h.1.0 h.1.1
+
+gave_well : (limit : ℕ) (r : Reading) → GaveEnough limit r → r.stage ≢ failed
+gave_well limit r (inl h) = λ e. cc (h.0, e)
+gave_well limit r (inr h) = λ e. cc (h.0, e)
+
+after_well : {A : Type 0} (rs : List Reading) (y : Result A Refused) (Next : Origin → A → Answer → Type 0) (a : Answer)
+    → ((x : A) → Next (by_log rs) x a → NoneFailed rs) → After Next (by_log rs) y a → NoneFailed rs
+after_well rs (Ok x) Next a f h = f x h
+after_well rs (Err e) Next a f h = subst NoneFailed (sym h.1) tt
+
+enough_well : {A : Type 0} (kind : FileKind A) (r : Reading) (rs : List Reading) (Next : Origin → A → Answer → Type 0) (a : Answer)
+    → OfContents a → IsEnough kind.limit r → After Next (by_log rs) (judged_at kind r.stage r.given) a → r.stage ≢ failed
+enough_well kind r rs Next a sound (inl e) h =
+    absurd (subst OfContents (subst (λ s. After Next (by_log rs) (judged_at kind s r.given) a) e h).0 sound refl)
+enough_well kind r rs Next a sound (inr enough) h = gave_well kind.limit r enough
+
+-- nothing failed, if the answer is not for a file that could not be read
+pub reads_well : {A : Type 0} (name : List ℕ) (kind : FileKind A) (Next : Origin → A → Answer → Type 0) (rs : List Reading) (a : Answer)
+    → OfContents a → ((ys : List Reading) (x : A) → Next (by_log ys) x a → NoneFailed ys) → Reads (by_log rs) name kind Next a → NoneFailed rs
+reads_well name kind Next [] a sound f h = absurd h
+reads_well name kind Next (r ∷ rs) a sound f h =
+    (enough_well kind r rs Next a sound h.1.0 h.1.1, after_well rs (judged_at kind r.stage r.given) Next a (f rs) h.1.1)

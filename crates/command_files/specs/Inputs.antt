@@ -15,6 +15,9 @@ use Rattle.stream_text.specs.OrderText.{order_of}
 use Rattle.unread_keys.specs.Session.{unread_text}
 use Rattle.command_files.specs.Devices.{devices_of}
 use Rattle.command_files.specs.Judged.{FileKind, IsJudged, judged, with_more}
+use Rattle.command_files.specs.declared.refusal.Input.{Input}
+use Rattle.command_files.specs.declared.refusal.Input.TheVariants as input
+use Rattle.command_files.specs.RefusalView.{input_word, subject_of, subject_word}
 use Rattle.command_files.specs.Refused.{Refused, bad_got_line, bad_order_line, bad_want_line, session_refused, recording_refused, too_long}
 
 -- the most bytes of a session, 4 MiB
@@ -48,7 +51,7 @@ plan_judged (Err fault) = Err (session_refused fault)
 
 -- session files: their rules are checked, and then the number of steps
 abbrev pub session_file : FileKind PlanData
-session_file = record { limit = session_limit; what = codes "session"; rule = λ bytes. plan_judged (session_of bytes) }
+session_file = record { limit = session_limit; file = codes "session"; what = codes "session"; rule = λ bytes. plan_judged (session_of bytes) }
 
 -- the plan of a session file, or why it is refused
 abbrev pub session_judged : List ℕ → Result PlanData Refused
@@ -65,7 +68,8 @@ lines_judged (Err error) = Err (recording_refused error)
 
 -- recordings of these devices: each of their lines is checked
 abbrev pub events_file : Known → FileKind (List RawEvent)
-events_file devices = record { limit = recording_limit; what = codes "recording"; rule = λ bytes. lines_judged (recorded devices bytes) }
+events_file devices =
+    record { limit = recording_limit; file = codes "recording"; what = codes "recording"; rule = λ bytes. lines_judged (recorded devices bytes) }
 
 -- recordings of these devices, with their lines
 abbrev pub lined_file : Known → FileKind (List RawEvent × List (List ℕ))
@@ -82,11 +86,15 @@ order_lines (Err n) = Err (bad_order_line n)
 
 -- order files: each of their lines is checked
 abbrev pub order_file : FileKind (List OrderLine)
-order_file = record { limit = order_limit; what = codes "order"; rule = λ bytes. order_lines (order_of bytes) }
+order_file = record { limit = order_limit; file = codes "order"; what = codes "order"; rule = λ bytes. order_lines (order_of bytes) }
 
--- stream files, of which only the length is checked here
+-- files of streams that are read for this, of which only the length is checked here
+abbrev pub stream_kind : Input → FileKind (List ℕ)
+stream_kind file = record { limit = stream_limit; file = input_word file; what = subject_word (subject_of file); rule = λ bytes. Ok bytes }
+
+-- the one file of streams of a command
 abbrev pub stream_file : FileKind (List ℕ)
-stream_file = record { limit = stream_limit; what = codes "stream"; rule = λ bytes. Ok bytes }
+stream_file = stream_kind input.Stream
 
 -- the sections of streams, or the refusal of the first bad or missing line
 abbrev pub sections_said : (ℕ → Refused) → Result (List Section) ℕ → Result (List Section) Refused
@@ -94,16 +102,22 @@ sections_said Bad (Ok sections) = Ok sections
 sections_said Bad (Err n) = Err (Bad n)
 
 -- stream files whose sections are compared: each of their lines is checked
-abbrev pub sections_file : (ℕ → Refused) → FileKind (List Section)
-sections_file Bad = record { limit = stream_limit; what = codes "stream"; rule = λ bytes. sections_said Bad (file_sections bytes) }
+abbrev pub sections_file : Input → (ℕ → Refused) → FileKind (List Section)
+sections_file file Bad =
+    record {
+      limit = stream_limit;
+      file = input_word file;
+      what = subject_word (subject_of file);
+      rule = λ bytes. sections_said Bad (file_sections bytes);
+    }
 
 -- the expected sections
 abbrev pub want_file : FileKind (List Section)
-want_file = sections_file bad_want_line
+want_file = sections_file input.Want bad_want_line
 
 -- the actual sections
 abbrev pub got_file : FileKind (List Section)
-got_file = sections_file bad_got_line
+got_file = sections_file input.Got bad_got_line
 
 -- the expected sections, or why their file is refused
 abbrev pub want_judged : List ℕ → Result (List Section) Refused

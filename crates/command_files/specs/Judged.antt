@@ -1,9 +1,9 @@
 -- Files that are read and judged one after another.
-use Rattle.std.specs.Prelude.{◌≡◌, true, ℕ, ◌+◌, ◌≤◌, nat_le, cond, List, [], ◌∷◌, length, Option, Some, None, Result, Ok, Err, ⊤, ◌⊎◌}
+use Rattle.std.specs.Prelude.{◌≡◌, ◌≢◌, ℕ, ◌+◌, ◌≤◌, nat_le, cond, List, [], ◌∷◌, length, Option, Some, None, Result, Ok, Err, ⊤, ◌⊎◌}
 use Rattle.std.specs.Option.{IsSomeAnd}
-use Rattle.outside_io.specs.Trace.{Reading}
+use Rattle.outside_io.specs.Trace.{Reading, Stage, at_end, failed, going}
 use Rattle.outside_io.specs.Outside.{Entry, bytes_of}
-use Rattle.command_files.specs.Refused.{Refused, too_long}
+use Rattle.command_files.specs.Refused.{Refused, read_failed, too_long}
 
 -- what the program answers: a text that it writes, or why it refuses
 abbrev pub Answer : Type 0
@@ -14,9 +14,11 @@ abbrev pub IfTold : Option (List Entry) → (List Entry → Type 0) → Type 0
 IfTold None Holds = ⊤
 IfTold (Some entries) Holds = Holds entries
 
--- a kind of files: the most bytes that one may have, the word for one that has more, and how the bytes of another are judged
+-- a kind of files: the most bytes that one may have, the word for one that could not be read and that for one that has
+-- more bytes, and how the bytes of another are judged
 pub record FileKind (A : Type 0) : Type 0 where
   pub limit : ℕ
+  pub file : List ℕ
   pub what : List ℕ
   pub rule : List ℕ → Result A Refused
 
@@ -31,16 +33,30 @@ beside (Err r) more = Err r
 
 -- files of a kind with an additional result from their bytes
 abbrev pub with_more : {A B : Type 0} → FileKind A → (List ℕ → B) → FileKind (A × B)
-with_more kind more = record { limit = kind.limit; what = kind.what; rule = λ bytes. beside (kind.rule bytes) (more bytes) }
+with_more kind more = record { limit = kind.limit; file = kind.file; what = kind.what; rule = λ bytes. beside (kind.rule bytes) (more bytes) }
 
 -- where the bytes of files come from: files under their names, or the readings of a call, one after another
 pub data Origin : Type 0 where
   by_name : List Entry → Origin
   by_log : List Reading → Origin
 
--- a reading gives what the judgement of a file needs: all its bytes, or one more than it may have
+-- a reading gave all the bytes of a file, or one more than it may have
+abbrev pub GaveEnough : ℕ → Reading → Type 0
+GaveEnough limit r = ((r.stage ≡ at_end) × (length r.given ≤ limit)) ⊎ ((r.stage ≡ going) × (length r.given ≡ limit + 1))
+
+-- a reading gave what the judgement of a file needs, or failed
 abbrev pub IsEnough : ℕ → Reading → Type 0
-IsEnough limit r = ((r.ended ≡ true) × (length r.given ≤ limit)) ⊎ (length r.given ≡ limit + 1)
+IsEnough limit r = (r.stage ≡ failed) ⊎ GaveEnough limit r
+
+-- how a reading of a file is judged, by where it stands: one that failed is refused, and another is judged by what it gave
+abbrev pub judged_at : {A : Type 0} → FileKind A → Stage → List ℕ → Result A Refused
+judged_at kind failed given = Err (read_failed kind.file)
+judged_at kind stage given = judged kind given
+
+-- an answer that is not for a file that could not be read
+abbrev pub OfContents : Answer → Type 0
+OfContents (Ok text) = ⊤
+OfContents (Err r) = r.status ≢ 4
 
 -- nothing more is read
 abbrev pub NoMore : Origin → Type 0
@@ -57,7 +73,7 @@ abbrev pub Reads : {A : Type 0} → Origin → List ℕ → FileKind A → (Orig
 Reads (by_name entries) name kind Next a = IsSomeAnd (bytes_of entries name) (λ bytes. After Next (by_name entries) (judged kind bytes) a)
 Reads (by_log []) name kind Next a = ⊥
 Reads (by_log (r ∷ rs)) name kind Next a =
-    (r.name ≡ name) × (IsEnough kind.limit r × After Next (by_log rs) (judged kind r.given) a)
+    (r.name ≡ name) × (IsEnough kind.limit r × After Next (by_log rs) (judged_at kind r.stage r.given) a)
 
 -- this is the answer, and nothing more is read
 abbrev pub Ends : (Answer → Type 0) → Origin → Answer → Type 0

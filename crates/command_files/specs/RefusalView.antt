@@ -6,6 +6,8 @@ use Rattle.judge_text.specs.Lines.{refusal_line as judge_line}
 use Rattle.session_plan.specs.ErrorLine.{error_line}
 use Rattle.command_files.specs.declared.refusal.Refusal.{Refusal}
 use Rattle.command_files.specs.declared.refusal.Refusal.TheVariants.{Session, Recording, Order, Stream, ReadFailed, NoMemory, TooLong}
+use Rattle.command_files.specs.declared.refusal.Input.{Input}
+use Rattle.command_files.specs.declared.refusal.Input.TheVariants as input
 use Rattle.command_files.specs.declared.refusal.OrderError.{OrderError}
 use Rattle.command_files.specs.declared.refusal.OrderError.TheVariants as order
 use Rattle.command_files.specs.declared.refusal.StreamError.{StreamError}
@@ -20,7 +22,7 @@ status_of (Session error) = 3
 status_of (Recording error) = 3
 status_of (Order error) = 1
 status_of (Stream error) = 1
-status_of ReadFailed = 4
+status_of (ReadFailed file) = 4
 status_of NoMemory = 6
 status_of (TooLong what) = 7
 
@@ -50,13 +52,31 @@ subject_word subject.Steps = codes "steps"
 subject_word subject.Stream = codes "stream"
 subject_word subject.Run = codes "run"
 
+-- the word for a file
+abbrev pub input_word : Input → List ℕ
+input_word input.Session = codes "session"
+input_word input.Recording = codes "recording"
+input_word input.Order = codes "order"
+input_word input.Stream = codes "stream"
+input_word input.Want = codes "want"
+input_word input.Got = codes "got"
+
+-- what such a file is where it is longer than its limit
+abbrev pub subject_of : Input → Subject
+subject_of input.Session = subject.Session
+subject_of input.Recording = subject.Recording
+subject_of input.Order = subject.Order
+subject_of input.Stream = subject.Stream
+subject_of input.Want = subject.Stream
+subject_of input.Got = subject.Stream
+
 -- the message for a refusal
 abbrev pub words_of : Refusal → List ℕ
 words_of (Session error) = error_line error
 words_of (Recording error) = recording_line error
 words_of (Order error) = order_line error
 words_of (Stream error) = stream_line error
-words_of ReadFailed = codes "read failed"
+words_of (ReadFailed file) = input_word file ++ codes ": ReadFailed"
 words_of NoMemory = codes "no memory"
 words_of (TooLong what) = codes "too long: " ++ subject_word what
 

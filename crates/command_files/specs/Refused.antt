@@ -78,6 +78,10 @@ bad_got_line n = refused 1 (codes "got: BadLine " ++ decimal n)
 abbrev pub not_same : CompareError → Refused
 not_same error = refused 1 (compare_line error)
 
+-- a file could not be opened or read
+abbrev pub read_failed : List ℕ → Refused
+read_failed file = refused 4 (file ++ codes ": ReadFailed")
+
 -- something is longer than its limit
 abbrev pub too_long : List ℕ → Refused
 too_long what = refused 7 (codes "too long: " ++ what)

@@ -7,6 +7,6 @@ use Rattle.command_files.specs.RefusalView.{refusal_view}
 
 -- What is judged is refused so, or memory ran out. No file is read.
 abbrev pub RefusesSo : (Refused → Type 0) → Refusal → Type 0
-RefusesSo Comes ReadFailed = ⊥
+RefusesSo Comes (ReadFailed file) = ⊥
 RefusesSo Comes NoMemory = ⊤
 RefusesSo Comes r = Comes (refusal_view r)

@@ -1,5 +1,6 @@
 //! Reading a file to its end or its limit.
-ghost use Rattle.std.specs.Prelude.{◌≡◌, ◌+◌, ◌<◌, ◌≤◌, ◌^◌, true, false, [], IfOk, IfErr, OnOk, IsErrOf, IsTrue, None, length, vec_len};
+ghost use Rattle.std.specs.Prelude.{◌≡◌, ◌+◌, ◌<◌, ◌≤◌, ◌^◌, [], IfOk, IfErr, OnOk, IsErrOf, IsTrue, None, length, vec_len};
+ghost use Rattle.outside_io.specs.Trace.{at_end, failed, going};
 ghost use Rattle.outside_io.specs.Outside.{Rose};
 ghost use Rattle.command_files.specs.Logged.{IsWhole};
 ghost use Rattle.command_files.specs.Reading.{GivesMore, GivesWith};
@@ -62,9 +63,9 @@ fn read_piece<S: Source>(
     bytes: &mut Vec<u8>,
 ) -> Result<usize, ReadError>
     requires some { 0 < length buffer.old }
-    requires going { (S.reading source.old).ended ≡ false }
-    ensures going { IfOk result (λ count. 0 < count → (S.reading source.new).ended ≡ false) }
-    ensures ended { IfOk result (λ count. count ≡ 0 → (S.reading source.new).ended ≡ true) }
+    requires going { (S.reading source.old).stage ≡ going }
+    ensures going { IfOk result (λ count. 0 < count → (S.reading source.new).stage ≡ going) }
+    ensures ended { IfOk result (λ count. count ≡ 0 → (S.reading source.new).stage ≡ at_end) }
     ensures same { (S.reading source.old).given ≡ bytes.old.items
         → OnOk result ((S.reading source.new).given ≡ bytes.new.items) }
     ensures longer { IfOk result (λ count. length bytes.new.items ≡ length bytes.old.items + count) }
@@ -72,6 +73,7 @@ fn read_piece<S: Source>(
     ensures gives { GivesMore (S.left source.old) (S.left source.new) (S.reading source.old) (S.reading source.new) }
     ensures few { length (S.reading source.new).given ≤ length (S.reading source.old).given + length buffer.old }
     ensures failed { IsErrOf result ReadError.Failed → Rose (S.faults source.old) (S.faults source.new) }
+    ensures broken { IsErrOf result ReadError.Failed → (S.reading source.new).stage ≡ failed }
     ensures no_limit { ¬ (IsErrOf result ReadError.TooLong) }
     ensures later { S.faults source.old ≤ S.faults source.new }
     ensures loan { S.loan source.new ≡ S.loan source.old }
@@ -84,15 +86,17 @@ fn read_piece<S: Source>(
 /// Reads all bytes of an unread source, at most `limit`.
 fn read_all<S: Source>(alloc: Global, source: &mut S, limit: usize) -> Result<Vec<u8>, ReadError>
     requires limit { limit < 2 ^ 32 }
-    requires going { (S.reading source.old).ended ≡ false }
+    requires going { (S.reading source.old).stage ≡ going }
     requires unread { (S.reading source.old).given ≡ [] }
     ensures ok { IfOk result (λ v. (S.reading source.new).given ≡ v.items) }
     ensures within { IfOk result (λ v. length v.items ≤ limit) }
-    ensures ended { OnOk result ((S.reading source.new).ended ≡ true) }
+    ensures ended { OnOk result ((S.reading source.new).stage ≡ at_end) }
     ensures too_long { IsErrOf result ReadError.TooLong → length (S.reading source.new).given ≡ limit + 1 }
+    ensures not_yet { IsErrOf result ReadError.TooLong → (S.reading source.new).stage ≡ going }
     ensures gives { GivesMore (S.left source.old) (S.left source.new) (S.reading source.old) (S.reading source.new) }
     ensures few { length (S.reading source.new).given ≤ limit + 1 }
     ensures failed { IsErrOf result ReadError.Failed → Rose (S.faults source.old) (S.faults source.new) }
+    ensures broken { IsErrOf result ReadError.Failed → (S.reading source.new).stage ≡ failed }
     ensures later { S.faults source.old ≤ S.faults source.new }
     ensures loan { S.loan source.new ≡ S.loan source.old }
 {
@@ -115,10 +119,10 @@ fn feed_piece<S: Source, T: Taker>(
     taker: &mut T,
 ) -> Result<usize, ReadError>
     requires some { 0 < length buffer.old }
-    requires going { (S.reading source.old).ended ≡ false }
+    requires going { (S.reading source.old).stage ≡ going }
     requires fits { T.fits beside.now }
-    ensures going { IfOk result (λ count. 0 < count → (S.reading source.new).ended ≡ false) }
-    ensures ended { IfOk result (λ count. count ≡ 0 → (S.reading source.new).ended ≡ true) }
+    ensures going { IfOk result (λ count. 0 < count → (S.reading source.new).stage ≡ going) }
+    ensures ended { IfOk result (λ count. count ≡ 0 → (S.reading source.new).stage ≡ at_end) }
     ensures fed { IfOk result
         (λ count. GivesWith (S.reading source.old) (S.reading source.new) count
         (T.takes beside.now taker.old taker.new)) }
@@ -126,6 +130,7 @@ fn feed_piece<S: Source, T: Taker>(
     ensures gives { GivesMore (S.left source.old) (S.left source.new) (S.reading source.old) (S.reading source.new) }
     ensures few { length (S.reading source.new).given ≤ length (S.reading source.old).given + length buffer.old }
     ensures failed { IsErrOf result ReadError.Failed → Rose (S.faults source.old) (S.faults source.new) }
+    ensures broken { IsErrOf result ReadError.Failed → (S.reading source.new).stage ≡ failed }
     ensures no_limit { ¬ (IsErrOf result ReadError.TooLong) }
     ensures later { S.faults source.old ≤ S.faults source.new }
     ensures loan { S.loan source.new ≡ S.loan source.old }
@@ -144,16 +149,18 @@ fn feed_all<S: Source, T: Taker>(
     taker: &mut T,
 ) -> Result<(), ReadError>
     requires limit { limit < 2 ^ 32 }
-    requires going { (S.reading source.old).ended ≡ false }
+    requires going { (S.reading source.old).stage ≡ going }
     requires unread { (S.reading source.old).given ≡ [] }
     requires fits { T.fits beside.now }
     ensures ok { OnOk result (T.takes beside.now taker.old taker.new (S.reading source.new).given) }
     ensures within { OnOk result (length (S.reading source.new).given ≤ limit) }
-    ensures ended { OnOk result ((S.reading source.new).ended ≡ true) }
+    ensures ended { OnOk result ((S.reading source.new).stage ≡ at_end) }
     ensures too_long { IsErrOf result ReadError.TooLong → length (S.reading source.new).given ≡ limit + 1 }
+    ensures not_yet { IsErrOf result ReadError.TooLong → (S.reading source.new).stage ≡ going }
     ensures gives { GivesMore (S.left source.old) (S.left source.new) (S.reading source.old) (S.reading source.new) }
     ensures few { length (S.reading source.new).given ≤ limit + 1 }
     ensures failed { IsErrOf result ReadError.Failed → Rose (S.faults source.old) (S.faults source.new) }
+    ensures broken { IsErrOf result ReadError.Failed → (S.reading source.new).stage ≡ failed }
     ensures later { S.faults source.old ≤ S.faults source.new }
     ensures loan { S.loan source.new ≡ S.loan source.old }
 {

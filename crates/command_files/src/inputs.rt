@@ -7,15 +7,16 @@ ghost use Rattle.session_plan.specs.Valid.{IsPlan};
 ghost use Rattle.session_plan.specs.View.{plan_view};
 ghost use Rattle.stream_text.specs.OrderText.{order_of};
 ghost use Rattle.command_files.specs.Inputs.{events_file, lines_judged, order_file, order_lines, plan_judged};
-ghost use Rattle.command_files.specs.Inputs.{session_file, stream_file};
+ghost use Rattle.command_files.specs.Inputs.{session_file, stream_kind};
 ghost use Rattle.command_files.specs.Judged.{IsJudged, judged};
 ghost use Rattle.command_files.specs.Logged.{IsRead, RefusesFile};
 ghost use Rattle.command_files.specs.ReadErrors.{refusal_of_read};
+ghost use Rattle.command_files.specs.RefusalView.{subject_of};
 ghost use Rattle.command_files.specs.Refusing.{RefusesSo};
 
 use crate::files::{ReadError, read_file};
 use crate::recording::recording_refusal;
-use crate::refusal::{OrderError, Refusal, Subject};
+use crate::refusal::{Input, OrderError, Refusal, Subject};
 use input_types::DeviceId;
 use outside_io::Files;
 use raw_events::{RawEvent, events_of};
@@ -55,14 +56,26 @@ pub(crate) fn plan_from(alloc: Global, bytes: &[u8]) -> Result<Plan, Refusal>
     Ok(plan)
 }
 
-/// The refusal of a file that was not read, of which this would be too long.
-pub fn read_refusal(error: ReadError, what: Subject) -> Refusal
-    ensures { result ≡ refusal_of_read what error }
+/// What such a file is where it is longer than its limit.
+fn subject_of(file: Input) -> Subject
+    ensures { result ≡ subject_of file }
+{
+    match file {
+        Input::Session => Subject::Session,
+        Input::Recording => Subject::Recording,
+        Input::Order => Subject::Order,
+        Input::Stream | Input::Want | Input::Got => Subject::Stream,
+    }
+}
+
+/// The refusal of a file that was not read to its end.
+pub fn read_refusal(error: ReadError, file: Input) -> Refusal
+    ensures { result ≡ refusal_of_read file error }
 {
     match error {
-        ReadError::Failed => Refusal::ReadFailed,
+        ReadError::Failed => Refusal::ReadFailed(file),
         ReadError::Memory => Refusal::NoMemory,
-        ReadError::TooLong => Refusal::TooLong(what),
+        ReadError::TooLong => Refusal::TooLong(subject_of(file)),
     }
 }
 
@@ -84,7 +97,7 @@ pub fn read_session<F: Files>(alloc: Global, files: &mut F, name: &str) -> Resul
 {
     match read_file(alloc, files, name, SESSION_LIMIT) {
         Ok(bytes) => plan_from(alloc, &bytes),
-        Err(error) => Err(read_refusal(error, Subject::Session)),
+        Err(error) => Err(read_refusal(error, Input::Session)),
     }
 }
 
@@ -110,7 +123,7 @@ pub fn read_events<F: Files>(
 {
     match read_file(alloc, files, name, RECORDING_LIMIT) {
         Ok(bytes) => events_in(alloc, devices, &bytes),
-        Err(error) => Err(read_refusal(error, Subject::Recording)),
+        Err(error) => Err(read_refusal(error, Input::Recording)),
     }
 }
 
@@ -144,7 +157,7 @@ pub fn read_order<F: Files>(alloc: Global, files: &mut F, name: &str) -> Result<
 {
     match read_file(alloc, files, name, ORDER_LIMIT) {
         Ok(bytes) => order_in(alloc, &bytes),
-        Err(error) => Err(read_refusal(error, Subject::Order)),
+        Err(error) => Err(read_refusal(error, Input::Order)),
     }
 }
 
@@ -162,15 +175,20 @@ fn order_in(alloc: Global, bytes: &[u8]) -> Result<Order, Refusal>
     }
 }
 
-/// Reads a stream file.
-pub fn read_stream<F: Files>(alloc: Global, files: &mut F, name: &str) -> Result<Vec<u8>, Refusal>
+/// Reads a file of streams, which the command reads for this.
+pub fn read_stream<F: Files>(
+    alloc: Global,
+    files: &mut F,
+    name: &str,
+    file: Input,
+) -> Result<Vec<u8>, Refusal>
     requires lends { IsTrue (F.lends files.old name.now) }
     requires free { F.lent files.old ≡ None }
     ensures ok { IfOk result (λ bytes. IsRead (F.entries files.old) (F.readings files.old) (F.readings files.new)
-        name.now stream_file (Ok bytes.items)) }
+        name.now (stream_kind file) (Ok bytes.items)) }
     ensures few { IfOk result (λ bytes. length bytes.items ≤ 67108864) }
     ensures err { IfErr result (RefusesFile (F.entries files.old) (F.readings files.old) (F.readings files.new)
-        name.now stream_file (F.faults files.old) (F.faults files.new)) }
+        name.now (stream_kind file) (F.faults files.old) (F.faults files.new)) }
     ensures later { F.faults files.old ≤ F.faults files.new }
     ensures free { F.lent files.new ≡ None }
     ensures entries { F.entries files.new ≡ F.entries files.old }
@@ -178,6 +196,6 @@ pub fn read_stream<F: Files>(alloc: Global, files: &mut F, name: &str) -> Result
 {
     match read_file(alloc, files, name, STREAM_LIMIT) {
         Ok(bytes) => Ok(bytes),
-        Err(error) => Err(read_refusal(error, Subject::Stream)),
+        Err(error) => Err(read_refusal(error, file)),
     }
 }

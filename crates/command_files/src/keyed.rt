@@ -11,7 +11,7 @@ ghost use Rattle.command_files.specs.Refusing.{RefusesSo};
 
 use crate::files::read_file;
 use crate::inputs::{SESSION_LIMIT, plan_from, read_refusal};
-use crate::refusal::{Refusal, Subject};
+use crate::refusal::{Input, Refusal};
 use outside_io::Files;
 use session_plan::Plan;
 use std::alloc::Global;
@@ -61,6 +61,6 @@ pub fn read_keyed_session<F: Files>(
 {
     match read_file(alloc, files, name, SESSION_LIMIT) {
         Ok(bytes) => keyed_from(alloc, &bytes),
-        Err(error) => Err(read_refusal(error, Subject::Session)),
+        Err(error) => Err(read_refusal(error, Input::Session)),
     }
 }

@@ -28,5 +28,5 @@ pub use inputs::{
 };
 pub use keyed::{KeyedPlan, read_keyed_session};
 pub use recording::{Recording, cook_event, run_event};
-pub use refusal::{OrderError, Refusal, StreamError, Subject};
+pub use refusal::{Input, OrderError, Refusal, StreamError, Subject};
 pub use taker::Taker;

@@ -8,6 +8,20 @@ use raw_events::LineError;
 use session_plan::PlanError;
 use std::alloc::AllocError;
 
+/// A file that a command reads, by what it reads it for.
+#[derive(Clone, Copy, Debug, PartialEq, Eq)]
+pub enum Input {
+    Session,
+    Recording,
+    Order,
+    /// The streams of a command that reads one file of them.
+    Stream,
+    /// The expected streams.
+    Want,
+    /// The actual streams.
+    Got,
+}
+
 /// What exceeded its limit.
 #[derive(Clone, Copy, Debug, PartialEq, Eq)]
 pub enum Subject {
@@ -69,8 +83,8 @@ pub enum Refusal {
     Order(OrderError),
     /// A stream file is refused.
     Stream(StreamError),
-    /// A file could not be read.
-    ReadFailed,
+    /// The file could not be opened or read.
+    ReadFailed(Input),
     /// There was not enough memory.
     NoMemory,
     TooLong(Subject),

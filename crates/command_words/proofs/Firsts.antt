@@ -3,7 +3,10 @@ use Rattle.std.proofs.Common.{◌≡◌, ℕ, List, [], ◌∷◌, true, false, 
 use Rattle.std.specs.Prelude.{IsSome, is_some, unwrap_or, bytes_eq, string_bytes}
 use Rattle.std.proofs.lemmas.Bool.{false≢true}
 use Rattle.std.proofs.lemmas.Bool.Decides.{nat_tests}
+use Rattle.help_text.specs.declared.page.Name.{Name}
+use Rattle.command_words.specs.Forms.{all_own}
 use Rattle.command_words.specs.Given.{Given}
+use Rattle.command_words.specs.Names.{is_own}
 use Rattle.command_words.specs.Options.{has_equals, joined, options_of, values_of}
 
 -- a word with a `=` is an option in front of those of the other words
@@ -45,6 +48,13 @@ named_first given more name h = rw h refl
 pub others_first : (given : Given) (more : List Given) (name : List ℕ) → bytes_eq given.name name ≡ false
     → values_of (given ∷ more) name ≡ values_of more name
 others_first given more name h = rw h refl
+
+-- options are all the command's own exactly where the first is and the others are
+pub own_first : (name : Name) (given : Given) (more : List Given) → is_own name given.name ≡ true → all_own name (given ∷ more) ≡ all_own name more
+own_first name given more h = rw h refl
+
+pub other_first : (name : Name) (given : Given) (more : List Given) → is_own name given.name ≡ false → all_own name (given ∷ more) ≡ false
+other_first name given more h = rw h refl
 
 -- if no word is left, all of them are options
 pub all_read : (left : List (String Global)) (all : Option (List Given)) → (length left == 0) ≡ true

@@ -1,7 +1,13 @@
 pub mod Appended
+pub mod Cleared
 pub mod Equals
 pub mod Examples
+pub mod Faults
+pub mod Faulty
 pub mod Firsts
+pub mod Made
 pub mod Numbers
 pub mod Places
 pub mod Spellings
+pub mod Stands
+pub mod Steps

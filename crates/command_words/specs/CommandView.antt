@@ -3,10 +3,10 @@ use Rattle.std.specs.Prelude.{}
 use Rattle.command_words.specs.declared.command.Command.{Command as Parsed}
 use Rattle.command_words.specs.declared.command.Command.TheVariants.{Race, Alone}
 use Rattle.command_words.specs.declared.command.Alone.{Alone as ParsedAlone}
-use Rattle.command_words.specs.declared.command.Alone.TheVariants.{Replay, Check, Verify, Work, Batch, Hover, Emit, Judge, Compare, Inspect, Why}
+use Rattle.command_words.specs.declared.command.Alone.TheVariants.{Replay, Check, Verify, Work, Batch, Hover, Emit, Judge, Compare, Inspect, Why, Show}
 use Rattle.command_words.specs.declared.command.Recorded.{Recorded as Names}
 use Rattle.command_words.specs.declared.options.Given.{Given as Spelled}
-use Rattle.command_words.specs.Command.{Command, Recorded, replay, race, check, verify, work, batch, hover, emit, judge, compare, inspect, why}
+use Rattle.command_words.specs.Command.{Command, Recorded, replay, race, check, verify, work, batch, hover, emit, judge, compare, inspect, why, show}
 use Rattle.command_words.specs.Given.{Given}
 
 -- the names of a run's files, as bytes
@@ -23,9 +23,11 @@ alone_view (Batch stream frame) = batch stream.now frame
 alone_view (Hover recorded mouse) = hover (recorded_view recorded) mouse.now
 alone_view (Emit stream channel device) = emit stream.now channel device
 alone_view (Judge stream) = judge stream.now
-alone_view (Compare want got us pixels) = compare want.now got.now us pixels
+alone_view (Compare want got us pixels want_channel got_channel each_move) =
+    compare want.now got.now us pixels want_channel got_channel each_move
 alone_view (Inspect recorded) = inspect (recorded_view recorded)
 alone_view (Why recorded) = why (recorded_view recorded)
+alone_view (Show page) = show page
 
 -- a command with its names of files, as bytes
 abbrev pub command_view : Parsed → Command

@@ -1,9 +1,14 @@
 -- The forms of the commands.
-use Rattle.std.specs.Prelude.{codes, ℕ, ◌==◌, ◌&&◌, if◌then◌else◌, List, [], ◌∷◌, length, bytes_eq, Option, Some, None, option_map}
-use Rattle.command_words.specs.Command.{Command, Recorded, replay, race, check, verify, work, batch, hover, emit, judge, compare, inspect, why}
+use Rattle.std.specs.Prelude.{codes, ℕ, Bool, false, if◌then◌else◌, List, [], ◌∷◌, Option, Some, None, option_map}
+use Rattle.std.specs.List.{list_all}
+use Rattle.help_text.specs.declared.page.Name.{Name}
+use Rattle.help_text.specs.declared.page.Name.TheVariants.{Replay, Race, Check, Verify, Work, Batch, Hover, Emit, Inspect, Why, Judge, Compare}
+use Rattle.help_text.specs.declared.page.Page.TheVariants.{Of}
+use Rattle.command_words.specs.Command.{Command, Recorded, replay, race, check, verify, work, batch, hover, emit, judge, compare, inspect, why, show}
 use Rattle.command_words.specs.Given.{Given}
-use Rattle.command_words.specs.Options.{options_of, values_of}
-use Rattle.command_words.specs.Value.{number, only, path}
+use Rattle.command_words.specs.Names.{asks_help, is_own, named, page_of}
+use Rattle.command_words.specs.Options.{options_of, stands_in, values_of}
+use Rattle.command_words.specs.Value.{moves, number, only, path}
 
 -- the first result, passed on to the second
 infixl 10 ◌>>=◌
@@ -79,15 +84,26 @@ emit_of value = do
 unfoldable pub judge_of : (List ℕ → Option (List ℕ)) → Option Command
 judge_of value = option_map judge (value (codes "--stream"))
 
+-- the channel from 1 to 64 that an option names, if it stands
+unfoldable pub channel_of : (List ℕ → Option (List ℕ)) → (List ℕ → Bool) → List ℕ → Option (Option ℕ)
+channel_of value stands name = if stands name then option_map Some (number_of value name 1 64) else Some None
+
+-- whether each move is a point, which is only if the option says so
+unfoldable pub moves_of : (List ℕ → Option (List ℕ)) → (List ℕ → Bool) → Option Bool
+moves_of value stands = if stands (codes "--moves") then value (codes "--moves") >>= moves else Some false
+
 -- `compare`, with the expected and the actual stream file, at most 1,000,000,000 microseconds, and at most 16,384
--- pixels
-unfoldable pub compare_of : (List ℕ → Option (List ℕ)) → Option Command
-compare_of value = do
+-- pixels; perhaps with a channel of each, and what moves are
+unfoldable pub compare_of : (List ℕ → Option (List ℕ)) → (List ℕ → Bool) → Option Command
+compare_of value stands = do
   want ← value (codes "--want")
   got ← value (codes "--got")
   us ← number_of value (codes "--us") 0 1000000000
   pixels ← number_of value (codes "--pixels") 0 16384
-  Some (compare want got us pixels)
+  want_channel ← channel_of value stands (codes "--want-channel")
+  got_channel ← channel_of value stands (codes "--got-channel")
+  each_move ← moves_of value stands
+  Some (compare want got us pixels want_channel got_channel each_move)
 
 -- `inspect`, with the files of a run
 unfoldable pub inspect_of : (List ℕ → Option (List ℕ)) → Option Command
@@ -97,30 +113,36 @@ inspect_of value = option_map inspect (recorded_of value)
 unfoldable pub why_of : (List ℕ → Option (List ℕ)) → Option Command
 why_of value = option_map why (recorded_of value)
 
--- the command for inspecting files, with a name, from how many options there are and what they say
-unfoldable pub looking_with : List ℕ → ℕ → (List ℕ → Option (List ℕ)) → Option Command
-looking_with name count value =
-    if bytes_eq name (codes "inspect") && count == 2 then inspect_of value
-    else if bytes_eq name (codes "why") && count == 2 then why_of value
-    else if bytes_eq name (codes "judge") && count == 1 then judge_of value
-    else if bytes_eq name (codes "compare") && count == 4 then compare_of value
-    else None
+-- the command with a name, from what its options say and which stand
+abbrev pub command_with : Name → (List ℕ → Option (List ℕ)) → (List ℕ → Bool) → Option Command
+command_with Replay value stands = replay_of value
+command_with Race value stands = race_of value
+command_with Check value stands = check_of value
+command_with Verify value stands = verify_of value
+command_with Work value stands = work_of value
+command_with Batch value stands = batch_of value
+command_with Hover value stands = hover_of value
+command_with Emit value stands = emit_of value
+command_with Inspect value stands = inspect_of value
+command_with Why value stands = why_of value
+command_with Judge value stands = judge_of value
+command_with Compare value stands = compare_of value stands
 
--- the command with a name, from how many options there are, which is how many it has, and what they say
-unfoldable pub command_with : List ℕ → ℕ → (List ℕ → Option (List ℕ)) → Option Command
-command_with name count value =
-    if bytes_eq name (codes "replay") && count == 2 then replay_of value
-    else if bytes_eq name (codes "race") && count == 2 then race_of value
-    else if bytes_eq name (codes "check") && count == 3 then check_of value
-    else if bytes_eq name (codes "verify") && count == 1 then verify_of value
-    else if bytes_eq name (codes "work") && count == 2 then work_of value
-    else if bytes_eq name (codes "batch") && count == 2 then batch_of value
-    else if bytes_eq name (codes "hover") && count == 3 then hover_of value
-    else if bytes_eq name (codes "emit") && count == 3 then emit_of value
-    else looking_with name count value
+-- all options are the command's own
+abbrev pub all_own : Name → List Given → Bool
+all_own name options = list_all (λ o. is_own name o.name) options
 
--- The command that words give. The first word names it, and the others spell options: each of the command's own once,
--- and no others.
+-- the command with a name and these options: each that it needs stands once, none twice, and no other stands
+abbrev pub said_by : Name → List Given → Option Command
+said_by name options = if all_own name options then command_with name (value_of options) (stands_in options) else None
+
+-- the command with a name and the words behind it: its help, or options
+abbrev pub behind : Name → List (List ℕ) → Option Command
+behind name words = if asks_help words then Some (show (Of name)) else options_of words >>= said_by name
+
+-- The command that words give. A page of help is a word alone. Else the first word names the command, and the others
+-- ask for its help or spell options: each of the command's own once, those in brackets at most once, and no others.
 unfoldable pub form_of : List (List ℕ) → Option Command
 form_of [] = None
-form_of (name ∷ words) = options_of words >>= λ options. command_with name (length options) (value_of options)
+form_of (word ∷ []) = option_map show (page_of word)
+form_of (word ∷ next ∷ words) = named word >>= λ name. behind name (next ∷ words)

@@ -1,6 +1,7 @@
 -- Proved facts about the words of a command.
-use Rattle.std.specs.Prelude.{◌≡◌, ℕ, false, List, ◌∷◌, ◌++◌, IsSome}
+use Rattle.std.specs.Prelude.{◌≡◌, ℕ, false, List, ◌∷◌, ◌++◌, IsSome, is_none, is_some}
 use Rattle.std.specs.Str.{byte}
+use Rattle.command_words.specs.Fault.{fault_of}
 use Rattle.command_words.specs.Forms.{form_of}
 use Rattle.command_words.specs.Options.{has_equals, options_of}
 
@@ -16,3 +17,7 @@ OrderLaw =
     (command : List ℕ) (front left right back : List (List ℕ))
     → IsSome (options_of front) → IsSome (options_of left) → IsSome (options_of right)
     → form_of (command ∷ front ++ (left ++ (right ++ back))) ≡ form_of (command ∷ front ++ (right ++ (left ++ back)))
+
+-- Something is wrong with words exactly where they are of no form.
+abbrev pub FaultLaw : Type 0
+FaultLaw = (words : List (List ℕ)) → is_some (fault_of words) ≡ is_none (form_of words)

@@ -1,7 +1,11 @@
 pub mod Command
 pub mod CommandView
+pub mod Fault
+pub mod FaultView
 pub mod Forms
 pub mod Given
 pub mod Laws
+pub mod Names
 pub mod Options
+pub mod Spelled
 pub mod Value

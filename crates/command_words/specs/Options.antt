@@ -32,3 +32,7 @@ given_in words = unwrap_or (options_of words) []
 -- the values of the options with a name
 abbrev pub values_of : List Given → List ℕ → List (List ℕ)
 values_of options name = map (λ o. o.value) (filter (λ o. bytes_eq o.name name) options)
+
+-- an option with a name stands among some
+abbrev pub stands_in : List Given → List ℕ → Bool
+stands_in options name = list_any (λ o. bytes_eq o.name name) options

@@ -1,5 +1,5 @@
 -- What the value of an option must be.
-use Rattle.std.specs.Prelude.{ℕ, ◌==◌, nat_le, Bool, false, not, ◌&&◌, ◌||◌, if◌then◌else◌, List, [], ◌∷◌, length, Option, Some, None}
+use Rattle.std.specs.Prelude.{codes, ℕ, ◌==◌, nat_le, Bool, true, false, not, ◌&&◌, ◌||◌, if◌then◌else◌, List, [], ◌∷◌, length, bytes_eq, is_some, Option, Some, None}
 use Rattle.std.specs.Char.{is_ascii_digit}
 use Rattle.std.specs.List.{list_all}
 use Rattle.std.specs.Str.{byte}
@@ -35,3 +35,28 @@ within low high n = if nat_le low n && nat_le n high then Some n else None
 -- the number from low to high that a value writes in 1 to 10 decimal digits, leading zeros allowed
 unfoldable pub number : ℕ → ℕ → List ℕ → Option ℕ
 number low high value = if is_numeral value then within low high (digits_value 10 value) else None
+
+-- `each` for each move a point, and `none` for no move
+unfoldable pub moves : List ℕ → Option Bool
+moves value = if bytes_eq value (codes "each") then Some true else if bytes_eq value (codes "none") then Some false else None
+
+-- A value that is not empty and does not begin with `-` is one that the option with a name takes: numbers have their
+-- ranges, a mouse is a path, moves are `none` or `each`, and any is a file.
+unfoldable pub fits : List ℕ → List ℕ → Bool
+fits name value =
+    if bytes_eq name (codes "--seed") then is_some (number 0 4294967295 value)
+    else if bytes_eq name (codes "--packets") then is_some (number 1 200000 value)
+    else if bytes_eq name (codes "--frame") then is_some (number 1 1000000000 value)
+    else if bytes_eq name (codes "--mouse") then is_path value
+    else if bytes_eq name (codes "--channel") then is_some (number 1 64 value)
+    else if bytes_eq name (codes "--device") then is_some (number 1 8 value)
+    else if bytes_eq name (codes "--us") then is_some (number 0 1000000000 value)
+    else if bytes_eq name (codes "--pixels") then is_some (number 0 16384 value)
+    else if bytes_eq name (codes "--want-channel") then is_some (number 1 64 value)
+    else if bytes_eq name (codes "--got-channel") then is_some (number 1 64 value)
+    else if bytes_eq name (codes "--moves") then is_some (moves value)
+    else true
+
+-- the option with a name takes a value
+unfoldable pub takes : List ℕ → List ℕ → Bool
+takes name value = is_value value && fits name value

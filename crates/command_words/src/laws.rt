@@ -1,5 +1,5 @@
 //! Proved facts about the words of a command. Each function has a law as its clause, and does nothing.
-ghost use Rattle.command_words.specs.Laws.{OrderLaw, SpellingsLaw};
+ghost use Rattle.command_words.specs.Laws.{FaultLaw, OrderLaw, SpellingsLaw};
 
 /// An option in one word, as `--name=value`, says what it says in two.
 pub fn spellings()
@@ -9,4 +9,9 @@ pub fn spellings()
 /// Options may change places.
 pub fn order()
     ensures { OrderLaw }
+{}
+
+/// Something is wrong with words exactly where they are of no form.
+pub fn faults()
+    ensures { FaultLaw }
 {}

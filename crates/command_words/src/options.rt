@@ -1,21 +1,23 @@
 //! The options that words spell.
 ghost use Rattle.std.specs.Prelude.{◌≡◌, ◌<◌, ◌⊎◌, ◌==◌, ◌∷◌, [], true, false, IsSome, IfSome, IfNone, map, option_map, string_bytes, length};
 ghost use Rattle.command_words.specs.CommandView.{given_view};
-ghost use Rattle.command_words.specs.Forms.{value_of};
-ghost use Rattle.command_words.specs.Options.{given_in, has_equals, joined, options_of, values_of};
+ghost use Rattle.command_words.specs.Forms.{all_own, value_of};
+ghost use Rattle.command_words.specs.Options.{given_in, has_equals, joined, options_of, stands_in, values_of};
 
+use crate::names::is_own;
 use crate::value::is_value;
+use help_text::Name;
 use std::marker::Model;
 
 /// An option with its value.
 #[derive(Clone, Copy)]
-struct Given<'a> {
-    name: &'a str,
-    value: &'a str,
+pub(crate) struct Given<'a> {
+    pub(crate) name: &'a str,
+    pub(crate) value: &'a str,
 }
 
 /// The option that a word spells by itself, as `NAME=VALUE`.
-fn joined(word: &str) -> Option<Given<'_>>
+pub(crate) fn joined(word: &str) -> Option<Given<'_>>
     ensures some { IfSome result (λ g. (has_equals word.now ≡ true) × (given_view g ≡ joined word.now)) }
     ensures none { IfNone result (has_equals word.now ≡ false) }
 {
@@ -96,17 +98,25 @@ impl<'a> Options<'a> {
         Some(Options { words })
     }
 
-    /// How many options there are.
-    pub(crate) fn len(&self) -> usize
-        ensures { result ≡ length self.now }
+    /// Whether all options are the command's own.
+    pub(crate) fn all_own(&self, name: Name) -> bool
+        ensures { result ≡ all_own name self.now }
     {
-        let mut count = 0;
         let mut rest = self.words;
-        'options: while let Some((_, behind)) = first_of(rest) {
-            count += 1;
+        'options: while let Some((given, behind)) = first_of(rest) {
+            if !is_own(name, given.name) {
+                return false;
+            }
             rest = behind;
         }
-        count
+        true
+    }
+
+    /// Whether an option with a name stands.
+    pub(crate) fn stands(&self, name: &str) -> bool
+        ensures { result ≡ stands_in self.now name.now }
+    {
+        find(self.words, name).is_some()
     }
 
     /// The value of the one option with a name. None if no option has the name, or several have, or if it cannot be a

@@ -2,8 +2,9 @@
 ghost use Rattle.std.specs.Prelude.{◌≡◌, ◌<◌, ◌≤◌, ◌^◌, ◌++◌, true, false, Ok, [], ◌∷◌, map, min, length, None, Some, option_map, IfOk, OnOk, OnErr, IsErrOf, is_ok, is_err};
 ghost use Rattle.std.specs.Io.{ReadsAtMost};
 ghost use Rattle.std.specs.Io.KnownBytes.{ReadConsumes};
+ghost use Rattle.outside_io.specs.Trace.{going};
 ghost use Rattle.outside_io.specs.Calls.{faults_after};
-ghost use Rattle.outside_io.specs.Outside.{GivesBytes, Rose, begun, bytes_of, loan_of, raised, read_on};
+ghost use Rattle.outside_io.specs.Outside.{GivesBytes, Rose, begun, bytes_of, loan_of, raised, read_on, unopened};
 ghost use Rattle.lent_io.specs.Entries.{entry_of};
 ghost use Rattle.lent_io.specs.Lent.{LentReading, LentState, no_faults};
 
@@ -105,7 +106,7 @@ impl<'a> Files for LentFiles<'a> {
         ensures begun { IfOk result (λ source. source.reading ≡ begun name.now) }
         ensures opened { OnOk result (self.new.readings ≡ self.old.readings) }
         ensures not_opened { IsErrOf result SourceRefused.Failed
-            → self.new.readings ≡ self.old.readings ++ begun name.now ∷ [] }
+            → self.new.readings ≡ self.old.readings ++ unopened name.now ∷ [] }
         ensures not_asked { IsErrOf result SourceRefused.Memory → self.new.readings ≡ self.old.readings }
         ensures lent { IfOk result (λ source. loan_of self.new.lent ≡ Some 0) }
         ensures not_lent { OnErr result (loan_of self.new.lent ≡ None) }
@@ -115,7 +116,9 @@ impl<'a> Files for LentFiles<'a> {
         ensures entries { Some self.new.files ≡ Some self.old.files }
     {
         let Some(left) = bytes_of(self.files, name) else {
-            self.readings.note(&opened(name));
+            let mut reading = opened(name);
+            reading.fail();
+            self.readings.note(&reading);
             self.faults = self.faults.saturating_add(1);
             return Err(SourceRefused::Failed);
         };
@@ -151,7 +154,7 @@ impl<'a> Source for LentSource<'a> {
 
     /// It never fails, and gives as much as `buf` has room for and is left.
     fn read(&mut self, buf: &mut [u8]) -> Result<usize, Failed>
-        requires going { self.old.reading.ended ≡ false }
+        requires going { self.old.reading.stage ≡ going }
         ensures count { result ≡ Ok (min (length buf.old) (length self.old.left)) }
         ensures reading { self.new.reading ≡ read_on self.old.reading result buf.new }
         ensures bound { ReadsAtMost result buf.new }

@@ -1,6 +1,7 @@
 -- Worked examples of the definitions.
 use Rattle.std.proofs.Common.{◌≡◌, ◌^◌, ◌-◌, List, true, false, [], ◌∷◌, Some, None, refl, arith}
-use Rattle.outside_io.specs.Outside.{raised, Rose, Entry, begun, bytes_of, gave}
+use Rattle.outside_io.specs.Outside.{raised, Rose, Entry, begun, broken, bytes_of, gave}
+use Rattle.outside_io.specs.Trace.{going, at_end, failed}
 use Rattle.outside_io.specs.Calls.{is_listed}
 use Rattle.outside_io.specs.MemFiles.{names_differ_in}
 use Rattle.outside_io.specs.MemSink.{SinkState, write_fails}
@@ -53,12 +54,16 @@ empty_passes : write_fails full 0 ≡ false
 empty_passes = refl
 
 -- a file `a` of two bytes, into a buffer of three: both come, and then the end
-both : gave (begun (97 ∷ [])) 2 (5 ∷ 6 ∷ 0 ∷ []) ≡ record { name = 97 ∷ []; given = 5 ∷ 6 ∷ []; ended = false }
+both : gave (begun (97 ∷ [])) 2 (5 ∷ 6 ∷ 0 ∷ []) ≡ record { name = 97 ∷ []; given = 5 ∷ 6 ∷ []; stage = going }
 both = refl
 
-the_end : gave (record { name = 97 ∷ []; given = 5 ∷ 6 ∷ []; ended = false }) 0 (0 ∷ 0 ∷ 0 ∷ []) ≡ record { name = 97 ∷ []; given = 5 ∷ 6 ∷ []; ended = true }
+the_end : gave (record { name = 97 ∷ []; given = 5 ∷ 6 ∷ []; stage = going }) 0 (0 ∷ 0 ∷ 0 ∷ []) ≡ record { name = 97 ∷ []; given = 5 ∷ 6 ∷ []; stage = at_end }
 the_end = refl
 
 -- nothing is asked for, so nothing is said of the end
 no_room : gave (begun (97 ∷ [])) 0 [] ≡ begun (97 ∷ [])
 no_room = refl
+
+-- the read after the first byte fails
+a_failure : broken (gave (begun (97 ∷ [])) 1 (5 ∷ 0 ∷ [])) ≡ record { name = 97 ∷ []; given = 5 ∷ []; stage = failed }
+a_failure = refl

@@ -3,7 +3,7 @@ use Rattle.std.specs.Prelude.{ℕ, Bool, true, false, ◌&&◌, List, [], ◌∷
 use Rattle.std.specs.declared.alloc.Global.{Global}
 use Rattle.outside_io.specs.Calls.{is_listed, next_number}
 use Rattle.outside_io.specs.Trace.{Reading}
-use Rattle.outside_io.specs.Outside.{raised, Entry, begun, bytes_of}
+use Rattle.outside_io.specs.Outside.{raised, Entry, begun, bytes_of, unopened}
 
 -- the bytes that are left, the most that one read gives, the numbers of the calls, which go on from those of the files, and how it was read
 pub record SourceState : Type 0 where
@@ -41,7 +41,7 @@ bytes_granted files name = if is_listed files.next files.failing then None else 
 -- the files after a call of `source` for this name that failed
 abbrev pub after_failure : FilesState → List ℕ → FilesState
 after_failure files name =
-    record files { next = next_number files.next; faults = raised files.faults 1; readings = files.readings ++ begun name ∷ [] }
+    record files { next = next_number files.next; faults = raised files.faults 1; readings = files.readings ++ unopened name ∷ [] }
 
 -- the files while a source is out, which has the list
 abbrev pub lending : FilesState → FilesState

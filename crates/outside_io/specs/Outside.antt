@@ -1,6 +1,6 @@
 -- What the outside may do: how a count of faults and a reading go on, and what a set of files tells of its names.
-use Rattle.std.specs.Prelude.{◌≡◌, ℕ, ◌+◌, ◌-◌, ◌^◌, ◌≤◌, min, nat_eq, nat_lt, Bool, false, ◌&&◌, if◌then◌else◌, List, [], ◌∷◌, ◌++◌, length, take, Option, None, Some, Result, Ok, Err, ⊤, IsSomeAnd, bytes_eq}
-use Rattle.outside_io.specs.Trace.{Reading, Writing}
+use Rattle.std.specs.Prelude.{◌≡◌, ℕ, ◌+◌, ◌-◌, ◌^◌, ◌≤◌, min, nat_eq, nat_lt, Bool, ◌&&◌, if◌then◌else◌, List, [], ◌∷◌, ◌++◌, length, take, Option, None, Some, Result, Ok, Err, ⊤, IsSomeAnd, bytes_eq}
+use Rattle.outside_io.specs.Trace.{Reading, Writing, going, at_end, failed}
 
 -- a count that is raised by `more` stands still at the greatest number of 64 bits
 abbrev pub raised : ℕ → ℕ → ℕ
@@ -40,14 +40,23 @@ wrote_on w r bytes =
 
 -- the reading of a file that was opened under a name
 abbrev pub begun : List ℕ → Reading
-begun name = record { name = name; given = []; ended = false }
+begun name = record { name = name; given = []; stage = going }
+
+-- the reading of a file that could not be opened
+abbrev pub unopened : List ℕ → Reading
+unopened name = record { name = name; given = []; stage = failed }
 
 -- A reading after one read more, which gave so many bytes at the front of this buffer: they come behind those before, and none in a
 -- buffer that is not empty is the end.
 abbrev pub gave : Reading → ℕ → List ℕ → Reading
-gave r count buffer = record { name = r.name; given = r.given ++ take count buffer; ended = nat_eq count 0 && nat_lt 0 (length buffer) }
+gave r count buffer =
+    record { name = r.name; given = r.given ++ take count buffer; stage = if nat_eq count 0 && nat_lt 0 (length buffer) then at_end else going }
 
--- a reading after one read more, with this answer, which left the buffer so; a read that fails changes nothing
+-- a reading after a read that failed
+abbrev pub broken : Reading → Reading
+broken r = record { name = r.name; given = r.given; stage = failed }
+
+-- a reading after one read more, with this answer, which left the buffer so; a read that fails gives nothing
 abbrev pub read_on : {E : Type 0} → Reading → Result ℕ E → List ℕ → Reading
 read_on r (Ok count) buffer = gave r count buffer
-read_on r (Err e) buffer = r
+read_on r (Err e) buffer = broken r

@@ -1,11 +1,17 @@
 -- What passed between a program and the world around it.
-use Rattle.std.specs.Prelude.{ℕ, Bool, List}
+use Rattle.std.specs.Prelude.{ℕ, List}
 
--- the reading of a file: the name that was asked for, the bytes that were given, in their order, and whether the end was reached
+-- where a reading stands: it goes on, it reached the end of its file, or the opening or a read failed
+pub data Stage : Type 0 where
+  going : Stage
+  at_end : Stage
+  failed : Stage
+
+-- the reading of a file: the name that was asked for, the bytes that were given, in their order, and where it stands
 pub record Reading : Type 0 where
   pub name : List ℕ
   pub given : List ℕ
-  pub ended : Bool
+  pub stage : Stage
 
 -- a write: the bytes that were handed over, and how many of them were taken, from the front
 pub record Write : Type 0 where

@@ -1,13 +1,14 @@
 ghost use Rattle.std.specs.Prelude.{◌≡◌, ◌≤◌, ◌++◌, true, false, [], ◌∷◌, None, Some, IfOk, OnOk, OnErr, IsErrOf, is_ok, is_err};
 ghost use Rattle.std.specs.Io.{ReadsAtMost};
-ghost use Rattle.outside_io.specs.Outside.{raised, Rose, GivesBytes, begun, loan_of, read_on};
+ghost use Rattle.outside_io.specs.Outside.{raised, Rose, GivesBytes, begun, loan_of, read_on, unopened};
+ghost use Rattle.outside_io.specs.Trace.{going};
 ghost use Rattle.outside_io.specs.Calls.{faults_after};
 ghost use Rattle.outside_io.specs.HostFiles.{HostState, HostReading};
 
 use crate::outside::{Failed, Files, Source, SourceRefused};
 use crate::reading::ReadingTrace;
 use crate::readings::FilesTrace;
-use crate::tracing::{note_read, opened};
+use crate::tracing::{not_opened, note_read, opened};
 use std::io::Read;
 use std::marker::Model;
 use std::{fs, rt};
@@ -77,7 +78,7 @@ impl<'a, R: rt::Files> Files for HostFiles<'a, R> {
         ensures begun { IfOk result (λ source. source.reading ≡ begun name.now) }
         ensures opened { OnOk result (self.new.readings ≡ self.old.readings) }
         ensures not_opened { IsErrOf result SourceRefused.Failed
-            → self.new.readings ≡ self.old.readings ++ begun name.now ∷ [] }
+            → self.new.readings ≡ self.old.readings ++ unopened name.now ∷ [] }
         ensures not_asked { IsErrOf result SourceRefused.Memory → self.new.readings ≡ self.old.readings }
         ensures bytes { IfOk result (λ source. GivesBytes None name.now None) }
         ensures fresh { IfOk result (λ source. source.faults ≡ 0) }
@@ -98,7 +99,7 @@ impl<'a, R: rt::Files> Files for HostFiles<'a, R> {
             }
             Err(_) => {
                 self.faults = self.faults.saturating_add(1);
-                self.readings.note(&opened(name));
+                self.readings.note(&not_opened(name));
                 Err(SourceRefused::Failed)
             }
         }
@@ -127,9 +128,9 @@ impl<F: Read> Source for HostSource<F> {
 
     ghost loan = { λ _. 0 };
 
-    /// Counts each error of the machine, and notes what it gave and its end.
+    /// Counts each error of the machine, and notes what it gave, its end and its failure.
     fn read(&mut self, buf: &mut [u8]) -> Result<usize, Failed>
-        requires going { self.old.reading.ended ≡ false }
+        requires going { self.old.reading.stage ≡ going }
         ensures count { self.new.faults ≡ faults_after (is_err result) self.old.faults }
         ensures bound { ReadsAtMost result buf.new }
         ensures reading { self.new.reading ≡ read_on self.old.reading result buf.new }
@@ -143,6 +144,7 @@ impl<F: Read> Source for HostSource<F> {
             }
             Err(_) => {
                 self.faults = self.faults.saturating_add(1);
+                self.reading.fail();
                 Err(Failed)
             }
         }

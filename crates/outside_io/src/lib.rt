@@ -4,8 +4,8 @@
 //! A [`Sink`] takes bytes. Each of the three counts its faults, and answers that it failed only in a
 //! call in which that count rose: nobody above can claim a fault that the outside did not have.
 //!
-//! Each of them logs what passed through it: a source the bytes that it gave and whether its end was
-//! told, files their readings one after another, a sink the bytes that it took and the writes that it
+//! Each of them logs what passed through it: a source the bytes that it gave and whether it reached its
+//! end or failed, files their readings one after another, a sink the bytes that it took and the writes that it
 //! was asked for. Contracts see that of every object, and what a file holds where the object tells it.
 //! [`MemFiles`] always does; as [`MemSink`], it fails at the calls that its maker named. [`HostFiles`]
 //! and [`HostSink`] stand over the machine's files and streams: they log what its reads gave and its
@@ -23,10 +23,9 @@
 //! | 1 | `files.source("greeting")` | a source | `hello` | 0 |
 //! | 2 | `source.read(&mut [0; 8])` | 3, `hel` | `lo` | 0 |
 //! | 3 | `source.read(&mut [0; 8])` | `Failed` | `lo` | 1 |
-//! | 4 | `source.read(&mut [0; 8])` | 2, `lo` | none | 1 |
-//! | 5 | `source.read(&mut [0; 8])` | 0, the end | none | 1 |
 //!
-//! `files.done(source)` then adds that fault to the count of the files, whose next call is number 6.
+//! `files.done(source)` then adds that fault to the count of the files, and a reading to their log that gave
+//! `hel` and failed. The next call of the files is number 4.
 #![tactic(auto)]
 
 mod copying;

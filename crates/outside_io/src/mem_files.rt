@@ -1,7 +1,8 @@
 ghost use Rattle.std.specs.Prelude.{◌≡◌, ◌-◌, ◌<◌, ◌≤◌, ◌++◌, ◌↔◌, true, false, [], ◌∷◌, min, map, length, take, drop, vec_len, None, Some, option_map, IfOk, OnOk, OnErr, IsErrOf, IsTrue, is_err};
 ghost use Rattle.std.specs.Io.{ReadsAtMost};
 ghost use Rattle.std.specs.Io.KnownBytes.{ReadConsumes};
-ghost use Rattle.outside_io.specs.Outside.{raised, Rose, GivesBytes, begun, bytes_of, loan_of, moved, read_on};
+ghost use Rattle.outside_io.specs.Outside.{raised, Rose, GivesBytes, begun, bytes_of, loan_of, moved, read_on, unopened};
+ghost use Rattle.outside_io.specs.Trace.{going};
 ghost use Rattle.outside_io.specs.Calls.{is_listed, next_number, faults_after};
 ghost use Rattle.outside_io.specs.MemFiles.{SourceState, FilesState, entry, names_differ_in, bytes_granted, after_failure, lending, source_of, after_return};
 
@@ -9,7 +10,7 @@ use crate::copying::copy_front;
 use crate::outside::{Failed, Files, Source, SourceRefused};
 use crate::reading::ReadingTrace;
 use crate::readings::FilesTrace;
-use crate::tracing::{note_read, opened};
+use crate::tracing::{not_opened, note_read, opened};
 use std::alloc::Global;
 use std::marker::Model;
 use std::mem;
@@ -139,7 +140,7 @@ impl MemFiles {
     fn refuse(&mut self, name: &str)
         ensures { self.new ≡ after_failure self.old name.now }
     {
-        self.readings.note(&opened(name));
+        self.readings.note(&not_opened(name));
         self.next = self.next.saturating_add(1);
         self.faults = self.faults.saturating_add(1);
     }
@@ -191,7 +192,7 @@ impl Files for MemFiles {
         ensures begun { IfOk result (λ source. source.reading ≡ begun name.now) }
         ensures opened { OnOk result (self.new.readings ≡ self.old.readings) }
         ensures not_opened { IsErrOf result SourceRefused.Failed
-            → self.new.readings ≡ self.old.readings ++ begun name.now ∷ [] }
+            → self.new.readings ≡ self.old.readings ++ unopened name.now ∷ [] }
         ensures not_asked { IsErrOf result SourceRefused.Memory → self.new.readings ≡ self.old.readings }
         ensures lent { IfOk result (λ source. loan_of self.new.lent ≡ Some 0) }
         ensures not_lent { OnErr result (loan_of self.new.lent ≡ None) }
@@ -239,7 +240,7 @@ impl Source for MemSource {
     /// A call fails where its number is listed. Any other gives as much as the piece, `buf` and the
     /// bytes that are left allow.
     fn read(&mut self, buf: &mut [u8]) -> Result<usize, Failed>
-        requires going { self.old.reading.ended ≡ false }
+        requires going { self.old.reading.stage ≡ going }
         ensures reading { self.new.reading ≡ read_on self.old.reading result buf.new }
         ensures fails { is_err result ≡ is_listed self.old.next self.old.failing }
         ensures count { IfOk result (λ n. n ≡ min self.old.piece (min (length buf.old) (length self.old.left))) }
@@ -258,6 +259,7 @@ impl Source for MemSource {
         self.next = number.saturating_add(1);
         if self.failing.contains(&number) {
             self.faults = self.faults.saturating_add(1);
+            self.reading.fail();
             return Err(Failed);
         }
         let count = copy_front(buf, self.bytes.split_at(self.at).1, self.piece);

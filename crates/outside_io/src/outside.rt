@@ -1,8 +1,8 @@
-ghost use Rattle.std.specs.Prelude.{◌≡◌, ℕ, ◌<◌, ◌≤◌, ◌++◌, Bool, false, List, [], ◌∷◌, length, Option, IfOk, OnOk, OnErr, IsErrOf, IsTrue};
+ghost use Rattle.std.specs.Prelude.{◌≡◌, ℕ, ◌<◌, ◌≤◌, ◌++◌, Bool, List, [], ◌∷◌, length, Option, IfOk, OnOk, OnErr, IsErrOf, IsTrue};
 ghost use Rattle.std.specs.Io.{ReadsAtMost, WritesAtMost};
 ghost use Rattle.std.specs.Io.KnownBytes.{ReadConsumes};
-ghost use Rattle.outside_io.specs.Trace.{Reading, Writing};
-ghost use Rattle.outside_io.specs.Outside.{raised, Rose, Entry, GivesBytes, begun, read_on, wrote_on};
+ghost use Rattle.outside_io.specs.Trace.{Reading, Writing, going};
+ghost use Rattle.outside_io.specs.Outside.{raised, Rose, Entry, GivesBytes, begun, read_on, unopened, wrote_on};
 ghost use Rattle.outside_io.specs.declared.outside.SourceRefused.TheVariants.{Memory};
 
 use std::alloc::AllocError;
@@ -26,9 +26,10 @@ pub trait Source {
     ghost loan: { Self → ℕ };
 
     /// Moves bytes from the front of those left into `buf`, and answers how many. The answer 0 for a
-    /// buffer that is not empty is the end, behind which nothing is read. A call that fails moves none.
+    /// buffer that is not empty is the end. A call that fails moves none. Nothing is read after the end, or after a
+    /// call that failed.
     fn read(&mut self, buf: &mut [u8]) -> Result<usize, Failed>
-        requires going { (reading self.old).ended ≡ false }
+        requires going { (reading self.old).stage ≡ going }
         ensures bound { ReadsAtMost result buf.new }
         ensures reading { reading self.new ≡ read_on (reading self.old) result buf.new }
         ensures bytes { ReadConsumes (left self.old) (left self.new) result buf.new }
@@ -102,7 +103,7 @@ pub trait Files {
         ensures begun { IfOk result (λ source. Self.In.reading source ≡ begun name.now) }
         ensures opened { OnOk result (readings self.new ≡ readings self.old) }
         ensures not_opened { IsErrOf result SourceRefused.Failed
-            → readings self.new ≡ readings self.old ++ begun name.now ∷ [] }
+            → readings self.new ≡ readings self.old ++ unopened name.now ∷ [] }
         ensures not_asked { IsErrOf result SourceRefused.Memory → readings self.new ≡ readings self.old }
         ensures lent { IfOk result (λ source. lent self.new ≡ Some (Self.In.loan source)) }
         ensures not_lent { OnErr result (lent self.new ≡ None) }

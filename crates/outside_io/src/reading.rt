@@ -1,6 +1,6 @@
-ghost use Rattle.std.specs.Prelude.{◌≡◌, true, false, [], ◌++◌};
+ghost use Rattle.std.specs.Prelude.{◌≡◌, [], ◌++◌};
 ghost use Rattle.std.specs.Borrow.{ftrue};
-ghost use Rattle.outside_io.specs.Trace.{Reading};
+ghost use Rattle.outside_io.specs.Trace.{Reading, going, at_end, failed};
 
 use std::marker::Model;
 
@@ -18,7 +18,7 @@ impl ReadingTrace {
     /// Nothing is read yet, and no name is known.
     #[inline(always)]
     pub fn new() -> ReadingTrace
-        ensures { result.reading ≡ record { name = []; given = []; ended = false } }
+        ensures { result.reading ≡ record { name = []; given = []; stage = going } }
     {
         ReadingTrace {}
     }
@@ -38,6 +38,12 @@ impl ReadingTrace {
     /// The end is reached.
     #[inline(always)]
     pub fn end(&mut self)
-        ensures { self.new.reading ≡ record self.old.reading { ended = true } }
+        ensures { self.new.reading ≡ record self.old.reading { stage = at_end } }
+    {}
+
+    /// The opening, or a read, failed.
+    #[inline(always)]
+    pub fn fail(&mut self)
+        ensures { self.new.reading ≡ record self.old.reading { stage = failed } }
     {}
 }

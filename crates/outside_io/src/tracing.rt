@@ -1,5 +1,6 @@
-ghost use Rattle.std.specs.Prelude.{◌≡◌, ◌≤◌, false, length};
-ghost use Rattle.outside_io.specs.Outside.{begun, gave};
+ghost use Rattle.std.specs.Prelude.{◌≡◌, ◌≤◌, length};
+ghost use Rattle.outside_io.specs.Trace.{going};
+ghost use Rattle.outside_io.specs.Outside.{begun, gave, unopened};
 
 use crate::reading::ReadingTrace;
 
@@ -12,10 +13,19 @@ pub fn opened(name: &str) -> ReadingTrace
     reading
 }
 
+/// The trace of a file that could not be opened under this name.
+pub fn not_opened(name: &str) -> ReadingTrace
+    ensures { result.reading ≡ unopened name.now }
+{
+    let mut reading = opened(name);
+    reading.fail();
+    reading
+}
+
 /// Notes a read that answered this count, with the end where it is 0 for a buffer that is not empty.
 pub fn note_read(reading: &mut ReadingTrace, buf: &[u8], count: usize)
     requires bound { count ≤ length buf.now }
-    requires going { reading.old.reading.ended ≡ false }
+    requires going { reading.old.reading.stage ≡ going }
     ensures { reading.new.reading ≡ gave reading.old.reading count buf.now }
 {
     reading.note(&buf[..count]);

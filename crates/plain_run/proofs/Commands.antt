@@ -3,7 +3,7 @@ use Rattle.std.proofs.Common.{◌≡◌, List, Option, Some, None, true, false, 
 use Rattle.outside_io.specs.Outside.{Entry}
 use Rattle.command_words.specs.declared.command.Alone.{Alone}
 use Rattle.command_words.specs.declared.command.Alone.TheVariants.{Replay}
-use Rattle.command_words.specs.Command.{Command, race, check, verify, work, batch, emit, judge}
+use Rattle.command_words.specs.Command.{Command, race, check, verify, work, batch, emit, judge, show}
 use Rattle.command_words.specs.CommandView.{alone_view}
 use Rattle.command_answers.specs.Program.{IsAlone}
 use Rattle.replay_engine.specs.Outcome.{LendsNames}
@@ -26,4 +26,5 @@ lends_all told (Some (work seed packets)) = tt
 lends_all told (Some (batch stream frame)) = refl
 lends_all told (Some (emit stream channel device)) = refl
 lends_all told (Some (judge stream)) = refl
+lends_all told (Some (show page)) = tt
 lends_all told (Some command) = (refl, λ h. refl)

@@ -6,7 +6,7 @@
 //! ```text
 //! verify --stream 1    one file, and room for 100 bytes and 100    0: the status is 0, and `well formed 1 2` is sent
 //! the same             room for 10 bytes and 100                   6, ROOM: `well forme` is sent, of 16 bytes
-//! verify --stream 2    one file, and room for 100 bytes and 100    0: the status is 4, and the line `read failed`
+//! verify --stream 2    one file, and room for 100 bytes and 100    0: the status is 4, the line `stream: ReadFailed`
 //! race ..              two files                                   21, NO_THREADS: nothing ran
 //! ```
 #![tactic(auto)]

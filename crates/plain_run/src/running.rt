@@ -15,9 +15,9 @@ use lent_io::LentFile;
 use plain_calls::status::{MEMORY, NO_THREADS, OK, RANGE, ROOM};
 use std::alloc::Global;
 
-/// Runs the program. `words` are those after its name, one per line; if a line is not UTF-8 there are none, which is
-/// no command. What it prints goes to `out`, and the line that says why it prints nothing goes to `err`, each as far
-/// as there is room; the rest of each buffer stays. `ran` says how many bytes they have.
+/// Runs the program. `words` are those after its name, one per line; a line that is not UTF-8 is the empty word. What
+/// it prints goes to `out`, and the line that says why it prints nothing goes to `err`, each as far as there is room;
+/// the rest of each buffer stays. `ran` says how many bytes they have.
 ///
 /// `ROOM` if one of them is longer than its buffer. `RANGE` for more than three files, `NO_THREADS` for the words of
 /// `race`, and `MEMORY` if there is no memory for the words: then nothing ran, and nothing changed.

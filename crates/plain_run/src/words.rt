@@ -1,36 +1,31 @@
 //! The words of a run.
-ghost use Rattle.std.specs.Prelude.{◌≡◌, IfOk, map, option_map, string_bytes};
-ghost use Rattle.text_lines.specs.Lines.{lines_of};
-ghost use Rattle.plain_run.specs.Words.{words_in, words_of};
+ghost use Rattle.std.specs.Prelude.{◌≡◌, IfOk, map, string_bytes};
+ghost use Rattle.plain_run.specs.Words.{word_of, words_of};
 
 use std::alloc::{AllocError, Global};
 use std::str;
 use text_lines::first_line;
 
-/// The words of a text, one per line; none if a line is not UTF-8 text, as for a program whose words are not text.
-pub(crate) fn words_of(alloc: Global, bytes: &[u8]) -> Result<Vec<String>, AllocError>
-    ensures { IfOk result (λ words. map string_bytes words.items ≡ words_of bytes.now) }
+/// The word of a line. A line that is not UTF-8 text is the empty word, as a word of the program is that is not text.
+fn word_of(text: &[u8]) -> &str
+    ensures { result.now ≡ word_of text.now }
 {
-    match words_in(alloc, bytes)? {
-        Some(words) => Ok(words),
-        None => Ok(Vec::new(alloc)),
+    match str::from_utf8(text) {
+        Ok(word) => word,
+        Err(_) => "",
     }
 }
 
-/// The words, if each line is UTF-8 text.
-fn words_in(alloc: Global, bytes: &[u8]) -> Result<Option<Vec<String>>, AllocError>
-    ensures { IfOk result (λ told. option_map (λ words. map string_bytes words.items) told
-        ≡ words_in (lines_of bytes.now)) }
+/// The words of a text, one per line.
+pub(crate) fn words_of(alloc: Global, bytes: &[u8]) -> Result<Vec<String>, AllocError>
+    ensures { IfOk result (λ words. map string_bytes words.items ≡ words_of bytes.now) }
 {
     let mut words = Vec::new(alloc);
     let mut rest = bytes;
     'lines: while !rest.is_empty() {
         let line = first_line(rest);
-        let Ok(word) = str::from_utf8(line.text) else {
-            return Ok(None);
-        };
-        words.push(String::from_str(alloc, word)?)?;
+        words.push(String::from_str(alloc, word_of(line.text))?)?;
         rest = line.rest;
     }
-    Ok(Some(words))
+    Ok(words)
 }

@@ -24,7 +24,7 @@ use Rattle.replay_actors.proofs.Listing.{reverse_then}
 abbrev pub History : Type 0
 History = List (Called Call Reply)
 
--- the order of what a turnstile tells
+-- the order of what a turnstile reports
 abbrev pub order_in : List ℕ → History → List OrderLine
 order_in seats [] = []
 order_in seats (e ∷ h) = order_in seats h ++ made_by (lane_from 1 seats e.0) e.1

@@ -26,7 +26,7 @@ cancelled now t [] last = inr refl
 cancelled now t (k ∷ ks) last =
     elim (cancelled now t ks None) [ inl e ↦ inl e | inr e ↦ inl e ]
 
--- a step that dispatches no args and repeats no key tells of keys only that they are cancelled
+-- of keys, a step that dispatches no args and repeats none sends cancels alone
 sent_cancels : (call : Call) (answer : Reply) (es : List Effect) (w : ℕ) → args_of call answer (inbound (past_of es)) ≡ None
     → repeat_by ((call, answer) ∷ past_of es) (last_key es) w ≡ [] → (ks : List KeyArgs) × (key_messages call answer es w ≡ map key_cancelled ks)
 sent_cancels call answer es w no_args no_repeat =

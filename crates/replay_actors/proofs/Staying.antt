@@ -75,7 +75,7 @@ idle_waits ds now h e = by_waiting (inbound (past_of (effects ds h))) (repeat_du
           ]),
     )
 
--- a step that tells a channel nothing and has no part of it leaves how much of it is published
+-- a step that sends a channel nothing and is not about it leaves how much of it is published
 pub published_stays : (ds : List ℕ) (call : Call) (answer : Reply) (h : History) (c : ℕ) → Legal ds ((call, answer) ∷ h)
     → is_silent call answer c ≡ true → part_of call answer c ≡ Untouched
     → (published (effects ds ((call, answer) ∷ h)) c ≡ published (effects ds h) c) × (received ((call, answer) ∷ h) c ≡ received h c)

@@ -25,7 +25,7 @@
 //! program made up. [`run_start`] runs them as threads:
 //!
 //! ```text
-//! run_by(.., &|start| run_start(rt, alloc, start, gate))     the lanes are threads, at which a gate stands
+//! run_by(.., |start| run_start(rt, alloc, start, gate))      the lanes are threads, at which a gate stands
 //! ```
 #![tactic(auto)]
 

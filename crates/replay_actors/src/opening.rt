@@ -36,8 +36,8 @@ fn open_one<R: Wait>(
     Ok(())
 }
 
-/// Opens the channels of a race in their order, by the seat of number 0 before it is split. After want of memory only a
-/// front part of them is opened.
+/// Opens the channels of a race in their order, by the seat of number 0 before it is split. If memory runs out, only
+/// the first of them are opened.
 #[tactic(auto, using(crate::proofs::Opened::opens_next))]
 pub fn open_channels<R: Wait>(
     rt: &R,

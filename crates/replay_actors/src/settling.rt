@@ -1,6 +1,6 @@
 //! Settling a core that no thread calls any more: nothing is left to do.
 //!
-//! Two args wait, the second of which tells window 1 something, and its owner finishes what it is given. These calls
+//! Two args wait, the second of which sends window 1 something, and its owner finishes what it is given. These calls
 //! are answered so, in this order:
 //!
 //! ```text

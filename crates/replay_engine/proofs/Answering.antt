@@ -5,24 +5,23 @@ use Rattle.command_words.specs.Command.{Command}
 use Rattle.command_words.specs.CommandView.{alone_view, command_view}
 use Rattle.command_words.specs.declared.command.Command.{Command as Parsed}
 use Rattle.command_words.specs.declared.command.Alone.{Alone as ParsedAlone}
-use Rattle.command_words.specs.declared.command.Alone.TheVariants.{Replay, Check, Verify, Work, Batch, Hover, Emit, Judge, Compare, Inspect, Why}
+use Rattle.command_words.specs.declared.command.Alone.TheVariants.{Replay, Check, Verify, Work, Batch, Hover, Emit, Judge, Compare, Inspect, Why, Show}
 use Rattle.command_words.specs.Forms.{form_of}
 use Rattle.command_files.specs.declared.refusal.Refusal.{Refusal}
 use Rattle.command_files.specs.Judged.{Answer, IfTold, by_log, by_name}
 use Rattle.command_files.specs.Logged.{Logged}
 use Rattle.command_files.proofs.Logs.{by_map, log_same}
-use Rattle.command_answers.specs.Program.{Answers, AnswersTo, IsAlone, RefusesCommand, files_of, usage}
+use Rattle.command_answers.specs.Program.{Answers, IsAlone, RefusesCommand, WordsAnswer, files_of, words_refused}
 use Rattle.command_answers.proofs.Told.{answers_told}
 use Rattle.replay_engine.specs.Outcome.{Asked, ComesTo, ReadsInTurn, files_in}
 use Rattle.replay_engine.specs.Refusing.{CameTo}
 
 -- the answer to a command is that to words of its form
 pub comes_words : (q : Asked) (command : Command) (a : Answer) → form_of q.words ≡ Some command → Answers q.told q.before q.now command a → ComesTo q a
-comes_words q command a is log =
-    let told = answers_told q.told q.before q.now command a log in (
-      subst (λ o. Logged q.told q.before q.now (files_in o) (λ rs. AnswersTo (by_log rs) o a)) (sym is) log,
-      subst (λ o. IfTold q.told (λ es. AnswersTo (by_name es) o a)) (sym is) told,
-    )
+comes_words q command a is log = (
+  subst (λ o. Logged q.told q.before q.now (files_in o) (λ rs. WordsAnswer (by_log rs) q.words o a)) (sym is) log,
+  (λ sound. subst (λ o. IfTold q.told (λ es. WordsAnswer (by_name es) q.words o a)) (sym is) (answers_told q.told q.before q.now command a sound log)),
+)
 
 -- and so are the files that were read
 pub reads_words : (q : Asked) (command : Command) → form_of q.words ≡ Some command → Logged q.told q.before q.now (files_of command) (λ rs. Unit {0})
@@ -43,16 +42,16 @@ came_so q command (Err e) is ok err =
 pub formed : (words : List (List ℕ)) (x y : Parsed) → Some (command_view x) ≡ form_of words → x ≡ y → form_of words ≡ Some (command_view y)
 formed words x y value is = sym value ∙ ap (λ (z : Parsed). Some (command_view z)) is
 
-usage_told : (told : Option (List Entry)) → IfTold told (λ es. AnswersTo (by_name es) None (Err usage))
-usage_told None = tt
-usage_told (Some es) = (refl, tt)
+fault_told : (told : Option (List Entry)) (words : List (List ℕ)) → IfTold told (λ es. WordsAnswer (by_name es) words None (Err (words_refused words)))
+fault_told None words = tt
+fault_told (Some es) words = (refl, tt)
 
--- words of no form give the usage, and no file is read
-pub comes_usage : (q : Asked) → form_of q.words ≡ None → q.now ≡ q.before → ComesTo q (Err usage)
-comes_usage q none same = (
-  subst (λ o. Logged q.told q.before q.now (files_in o) (λ rs. AnswersTo (by_log rs) o (Err usage))) (sym none)
-      (log_same q.told q.before q.now [] (λ rs. AnswersTo (by_log rs) None (Err usage)) same (refl, refl)),
-  subst (λ o. IfTold q.told (λ es. AnswersTo (by_name es) o (Err usage))) (sym none) (usage_told q.told),
+-- words of no form give their fault, and no file is read
+pub comes_fault : (q : Asked) → form_of q.words ≡ None → q.now ≡ q.before → ComesTo q (Err (words_refused q.words))
+comes_fault q none same = (
+  subst (λ o. Logged q.told q.before q.now (files_in o) (λ rs. WordsAnswer (by_log rs) q.words o (Err (words_refused q.words)))) (sym none)
+      (log_same q.told q.before q.now [] (λ rs. WordsAnswer (by_log rs) q.words None (Err (words_refused q.words))) same (refl, refl)),
+  (λ sound. subst (λ o. IfTold q.told (λ es. WordsAnswer (by_name es) q.words o (Err (words_refused q.words)))) (sym none) (fault_told q.told q.words)),
 )
 
 -- a command that starts no threads is no race
@@ -65,6 +64,7 @@ alone_is (Batch stream frame) = tt
 alone_is (Hover recorded mouse) = tt
 alone_is (Emit stream channel device) = tt
 alone_is (Judge stream) = tt
-alone_is (Compare want got us pixels) = tt
+alone_is (Compare want got us pixels want_channel got_channel each_move) = tt
 alone_is (Inspect recorded) = tt
 alone_is (Why recorded) = tt
+alone_is (Show page) = tt

@@ -1,3 +1,5 @@
 pub mod Answering
+pub mod Complete
 pub mod Endings
+pub mod Parts
 pub mod StillDown

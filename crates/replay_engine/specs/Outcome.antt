@@ -3,11 +3,11 @@ use Rattle.std.specs.Prelude.{codes, ◌≡◌, ◌≢◌, ℕ, nat_eq, ◌||◌
 use Rattle.outside_io.specs.Trace.{Reading, Writing}
 use Rattle.outside_io.specs.Outside.{Entry, Rose}
 use Rattle.text_output.specs.Passing.{StopsWithin, WritesAll, Tells as TellsLine}
-use Rattle.command_words.specs.Command.{Command, replay, race, check, verify, work, batch, hover, emit, judge, compare, inspect, why}
+use Rattle.command_words.specs.Command.{Command, replay, race, check, verify, work, batch, hover, emit, judge, compare, inspect, why, show}
 use Rattle.command_words.specs.Forms.{form_of}
 use Rattle.command_files.specs.Inputs.{AreAccepted, IsAccepted, IsWant}
-use Rattle.command_files.specs.Judged.{Answer, IfTold, by_log, by_name}
-use Rattle.command_files.specs.Logged.{Logged}
+use Rattle.command_files.specs.Judged.{Answer, IfTold, OfContents, by_log, by_name}
+use Rattle.command_files.specs.Logged.{Logged, NoneFailed}
 use Rattle.command_files.specs.Refused.{Refused}
 use Rattle.command_answers.specs.Program.{IsAnswer, files_of}
 
@@ -26,9 +26,10 @@ LendsNames told lends (Some (batch stream frame)) = IsTrue (lends stream)
 LendsNames told lends (Some (hover files mouse)) = IsTrue (lends files.session) × (IsAccepted told files.session → IsTrue (lends files.events))
 LendsNames told lends (Some (emit stream channel device)) = IsTrue (lends stream)
 LendsNames told lends (Some (judge stream)) = IsTrue (lends stream)
-LendsNames told lends (Some (compare want got us pixels)) = IsTrue (lends want) × (IsWant told want → IsTrue (lends got))
+LendsNames told lends (Some (compare want got us pixels want_channel got_channel each_move)) = IsTrue (lends want) × (IsWant told want → IsTrue (lends got))
 LendsNames told lends (Some (inspect files)) = IsTrue (lends files.session) × (IsAccepted told files.session → IsTrue (lends files.events))
 LendsNames told lends (Some (why files)) = IsTrue (lends files.session) × (IsAccepted told files.session → IsTrue (lends files.events))
+LendsNames told lends (Some (show page)) = ⊤
 
 -- What the program was asked: its words, what the files hold where that is known, and the log of the readings and the count of faults of the
 -- files, before and now.
@@ -50,13 +51,17 @@ abbrev pub files_in : Option Command → List (List ℕ × ℕ)
 files_in None = []
 files_in (Some command) = files_of command
 
--- Files of the words were read, in their order, each once and at most one byte past its limit, and no other.
+-- Files of the words were read, in their order, each once and at most one byte past its limit, and no other. None was
+-- opened after one that could not be read.
 abbrev pub ReadsInTurn : Asked → (List Reading → Type 0) → Type 0
 ReadsInTurn q Holds = Logged q.told q.before q.now (files_in (form_of q.words)) Holds
 
--- This is what the program answers to the words, by what was read of their files; and by what the files hold, where that is known.
+-- This is what the program answers to the words, by what was read of their files; and by what the files hold, where
+-- that is known and none of them could not be read.
 abbrev pub ComesTo : Asked → Answer → Type 0
-ComesTo q a = ReadsInTurn q (λ readings. IsAnswer (by_log readings) q.words a) × IfTold q.told (λ entries. IsAnswer (by_name entries) q.words a)
+ComesTo q a =
+    ReadsInTurn q (λ readings. IsAnswer (by_log readings) q.words a)
+    × (OfContents a → IfTold q.told (λ entries. IsAnswer (by_name entries) q.words a))
 
 -- the program answers a text, and the output took it whole
 abbrev pub WroteAll : Asked → Writing → Writing → Type 0
@@ -92,14 +97,15 @@ pub record Writes (q : Asked) (before now : Writing) (status : ℕ) : Type 0 whe
   pub front : status ≡ 5 → WroteFront q before now
   pub nothing : status ≢ 0 → status ≢ 5 → now ≡ before
 
--- What the error sink was sent, by the status. On 1, 2, 3 and 7 that is the line of a refusal with this status, which
--- is the program's answer; on 4, 5 and 6 that of a fault or of running out of memory; on 0 nothing.
+-- What the error sink was sent, by the status. On 1, 2, 3, 4 and 7 that is the line of a refusal with this status, which
+-- is the program's answer, on 4 for a reading that failed; on 5 and 6 that of a fault or of running out of memory; on 0
+-- nothing.
 pub record Tells (q : Asked) (faults_before faults_now : ℕ) (before now : Writing) (status : ℕ) : Type 0 where
   pub judged : status ≡ 1 → RefusedBy q 1 (TellsLine faults_before faults_now before now)
   pub usage_told : status ≡ 2 → RefusedBy q 2 (TellsLine faults_before faults_now before now)
   pub refused : status ≡ 3 → RefusedBy q 3 (TellsLine faults_before faults_now before now)
   pub too_much : status ≡ 7 → RefusedBy q 7 (TellsLine faults_before faults_now before now)
-  pub read_line : status ≡ 4 → TellsLine faults_before faults_now before now (codes "read failed\n")
+  pub unread : status ≡ 4 → RefusedBy q 4 (TellsLine faults_before faults_now before now)
   pub write_line : status ≡ 5 → TellsLine faults_before faults_now before now (codes "write failed\n")
   pub memory_line : status ≡ 6 → TellsLine faults_before faults_now before now (codes "no memory\n")
   pub silent : status ≡ 0 → now ≡ before
@@ -120,9 +126,10 @@ sink_ends faults_before faults_now before now =
 pub record Ends (q : Asked) (out err : SinkEnds) (status : ℕ) : Type 0 where
   pub is : IsTrue (is_status status)
   pub reads : ReadsInTurn q (λ readings. ⊤)
+  -- no opening and no read failed, except as 4 says, or before memory ran out
+  pub unfailed : status ≢ 4 → status ≢ 6 → ReadsInTurn q NoneFailed
   pub writes : Writes q out.before out.now status
   pub tells : Tells q err.faults_before err.faults_now err.before err.now status
   -- a read or a write failed, if the status says so
   pub read : status ≡ 4 → Rose q.faults_before q.faults_now
   pub write : status ≡ 5 → Rose out.faults_before out.faults_now
-  pub complete : Completes q out.faults_before out.faults_now status

@@ -7,11 +7,11 @@ ghost use Rattle.replay_engine.specs.Outcome.{LendsNames};
 
 use command_answers::{
     answer_batch, answer_check, answer_compare, answer_emit, answer_hover, answer_inspect,
-    answer_judge, answer_replay, answer_verify, answer_why, answer_work,
+    answer_judge, answer_page, answer_replay, answer_verify, answer_why, answer_work,
 };
 use command_files::Refusal;
 use command_words::Alone;
-use compare_text::Tolerance;
+use compare_text::{Comparison, Tolerance};
 use outside_io::Files;
 use std::alloc::Global;
 use text_pieces::Pieces;
@@ -52,14 +52,23 @@ pub fn answer_alone<F: Files>(
             got,
             us,
             pixels,
+            want_channel,
+            got_channel,
+            each_move,
         } => {
-            let tolerance = Tolerance {
-                us: *us,
-                pixels: *pixels,
+            let rule = Comparison {
+                tolerance: Tolerance {
+                    us: *us,
+                    pixels: *pixels,
+                },
+                want_channel: *want_channel,
+                got_channel: *got_channel,
+                each_move: *each_move,
             };
-            answer_compare(alloc, files, want, got, tolerance)
+            answer_compare(alloc, files, want, got, rule)
         }
         Alone::Inspect(recorded) => answer_inspect(alloc, files, *recorded),
         Alone::Why(recorded) => answer_why(alloc, files, *recorded),
+        Alone::Show(page) => answer_page(alloc, *page),
     }
 }

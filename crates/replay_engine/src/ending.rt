@@ -1,24 +1,42 @@
 //! How the program ends: what is written or printed, and the status.
-ghost use Rattle.std.specs.Prelude.{codes, ◌≡◌, ◌≢◌, ◌≤◌, ℕ, List, Ok};
+ghost use Rattle.std.specs.Prelude.{codes, ◌≡◌, ◌≢◌, ◌≤◌, ◌++◌, ℕ, List, Ok, map, string_bytes};
 ghost use Rattle.text_output.specs.Passing.{Tells, WritesAll};
+ghost use Rattle.command_words.specs.Fault.{words_line};
 ghost use Rattle.command_files.specs.RefusalView.{refusal_view, status_of};
 ghost use Rattle.replay_engine.specs.Outcome.{Asked, Ends, sink_ends};
 ghost use Rattle.replay_engine.specs.Refusing.{CameTo};
 
-use crate::statuses::{tell_order, tell_recording, tell_session, tell_stream, tell_too_long};
+use crate::statuses::{
+    tell_fault, tell_order, tell_recording, tell_session, tell_stream, tell_too_long, tell_unread,
+};
 use command_files::Refusal;
+use command_words::fault_of;
 use outside_io::Sink;
 use text_output::{tell, write_text};
 use text_pieces::Pieces;
 
 /// Prints a line, and returns the status that goes with it.
-pub fn end_with<E: Sink>(status: u8, line: &str, err: &mut E) -> u8
+fn end_with<E: Sink>(status: u8, line: &str, err: &mut E) -> u8
     ensures status { result ≡ status }
     ensures line { Tells (E.faults err.old) (E.faults err.new) (E.writing err.old) (E.writing err.new) line.now }
     ensures later { E.faults err.old ≤ E.faults err.new }
 {
     tell(err, line);
     status
+}
+
+/// Prints what is wrong with words that are of no form, and returns the status.
+pub fn end_words<E: Sink>(words: &[String], err: &mut E) -> u8
+    ensures status { result ≡ 2 }
+    ensures line { Tells (E.faults err.old) (E.faults err.new) (E.writing err.old) (E.writing err.new)
+        (words_line (map string_bytes words.now) ++ codes "\n") }
+    ensures later { E.faults err.old ≤ E.faults err.new }
+{
+    match fault_of(words) {
+        Some(fault) => tell_fault(err, &fault),
+        None => tell(err, "\n"),
+    }
+    2
 }
 
 /// The status of a refusal.
@@ -28,7 +46,7 @@ fn status_of(refusal: &Refusal) -> u8
     match refusal {
         Refusal::Session(_) | Refusal::Recording(_) => 3,
         Refusal::Order(_) | Refusal::Stream(_) => 1,
-        Refusal::ReadFailed => 4,
+        Refusal::ReadFailed(_) => 4,
         Refusal::NoMemory => 6,
         Refusal::TooLong(_) => 7,
     }
@@ -46,7 +64,7 @@ fn end_refused<E: Sink>(refusal: &Refusal, err: &mut E) -> u8
         Refusal::Recording(error) => tell_recording(err, error),
         Refusal::Order(error) => tell_order(err, *error),
         Refusal::Stream(error) => tell_stream(err, error),
-        Refusal::ReadFailed => tell(err, "read failed\n"),
+        Refusal::ReadFailed(file) => tell_unread(err, *file),
         Refusal::NoMemory => tell(err, "no memory\n"),
         Refusal::TooLong(what) => tell_too_long(err, *what),
     }

@@ -11,16 +11,19 @@
 //!
 //! ```text
 //! verify --stream a.txt               status 0, and the output took `well formed 1 2`
-//! replay --session a.toml             status 2, and the error sink took the line of usage
+//! replay --session a.toml             status 2, and the error sink took `words: Missing --events`
 //! ```
 #![tactic(auto)]
 
 mod commands;
+mod differing;
 mod ending;
+mod laws;
 mod statuses;
 mod top;
 mod whole;
 
 pub use ending::no_memory;
+pub use laws::completing;
 pub use replay_actors::{Gate, NoGate, RaceEnd, Start, race_text};
 pub use top::{is_alone, run, run_alone, run_by};

@@ -4,11 +4,15 @@ ghost use Rattle.std.specs.Fmt.{signed_decimal};
 ghost use Rattle.session_plan.specs.ErrorLine.{error_line, refused_line};
 ghost use Rattle.compare_text.specs.Lines.{refusal_line as compare_line};
 ghost use Rattle.text_output.specs.Passing.{Tells};
-ghost use Rattle.command_files.specs.Refused.{recording_line, too_long};
-ghost use Rattle.command_files.specs.RefusalView.{order_line, stream_line, subject_word};
+ghost use Rattle.command_words.specs.Fault.{fault_line};
+ghost use Rattle.command_words.specs.FaultView.{fault_view};
+ghost use Rattle.command_files.specs.Refused.{read_failed, recording_line, too_long};
+ghost use Rattle.command_files.specs.RefusalView.{input_word, order_line, stream_line, subject_word};
 
+use crate::differing::tell_differs;
 use crate::whole::tell_whole;
-use command_files::{OrderError, StreamError, Subject};
+use command_files::{Input, OrderError, StreamError, Subject};
+use command_words::{Fault, shown};
 use compare_text::CompareError;
 use itoa::Buffer;
 use key_layout::LayoutError;
@@ -17,9 +21,24 @@ use raw_events::LineError;
 use session_plan::PlanError;
 use text_output::{tell, tell_named, tell_pair};
 
-/// The line that lists the commands.
-pub const USAGE: &str =
-    "usage: inputflinger replay|race|check|verify|work|batch|hover|emit|inspect|why|judge|compare\n";
+/// Prints what is wrong with words.
+pub fn tell_fault<E: Sink>(err: &mut E, fault: &Fault<'_>)
+    ensures line { Tells (E.faults err.old) (E.faults err.new) (E.writing err.old) (E.writing err.new)
+        (fault_line (fault_view fault.now) ++ codes "\n") }
+    ensures later { E.faults err.old ≤ E.faults err.new }
+{
+    match fault {
+        Fault::NoCommand => tell(err, "words: NoCommand\n"),
+        Fault::UnknownCommand(word) => tell_named(err, "words: UnknownCommand ", shown(word)),
+        Fault::UnknownOption(word) => tell_named(err, "words: UnknownOption ", shown(word)),
+        Fault::Twice(option) => tell_named(err, "words: Twice ", shown(option)),
+        Fault::NoValue(option) => tell_named(err, "words: NoValue ", shown(option)),
+        Fault::BadValue(option, value) => {
+            tell_pair(err, "words: BadValue ", shown(option), shown(value));
+        }
+        Fault::Missing(option) => tell_named(err, "words: Missing ", shown(option)),
+    }
+}
 
 /// Prints a line that ends with a number.
 pub fn tell_number<E: Sink>(err: &mut E, words: &str, number: u64)
@@ -122,7 +141,7 @@ fn tell_same<E: Sink>(err: &mut E, error: CompareError)
     ensures later { E.faults err.old ≤ E.faults err.new }
 {
     match error {
-        CompareError::Differs { want, got } => tell_numbers(err, "compare: Differs ", want, got),
+        CompareError::Differs { want, got, what } => tell_differs(err, want, got, what),
         CompareError::Missing { want } => tell_number(err, "compare: Missing ", want),
         CompareError::Added { got } => tell_number(err, "compare: Added ", got),
         CompareError::NoSection { want } => tell_number(err, "compare: NoSection ", want),
@@ -163,6 +182,23 @@ pub fn tell_too_long<E: Sink>(err: &mut E, what: Subject)
         Subject::Steps => "too long: steps\n",
         Subject::Stream => "too long: stream\n",
         Subject::Run => "too long: run\n",
+    };
+    tell(err, line);
+}
+
+/// Prints which file could not be read.
+pub fn tell_unread<E: Sink>(err: &mut E, file: Input)
+    ensures line { Tells (E.faults err.old) (E.faults err.new) (E.writing err.old) (E.writing err.new)
+        (read_failed (input_word file)).line }
+    ensures later { E.faults err.old ≤ E.faults err.new }
+{
+    let line = match file {
+        Input::Session => "session: ReadFailed\n",
+        Input::Recording => "recording: ReadFailed\n",
+        Input::Order => "order: ReadFailed\n",
+        Input::Stream => "stream: ReadFailed\n",
+        Input::Want => "want: ReadFailed\n",
+        Input::Got => "got: ReadFailed\n",
     };
     tell(err, line);
 }

@@ -2,6 +2,7 @@
 use Rattle.std.proofs.Common.{ℕ, List, [], ◌∷◌, Option, Ok, Err, subst, sym}
 use Rattle.std.proofs.lemmas.Result.{err_from_is_err_and}
 use Rattle.outside_io.specs.Outside.{Entry}
+use Rattle.command_files.specs.declared.refusal.Input.TheVariants as input
 use Rattle.command_files.specs.Inputs.{stream_limit, want_file}
 use Rattle.command_files.specs.Judged.{by_log}
 use Rattle.command_files.specs.Logged.{IsRead, IsWhole, Logged, RefusesBy}
@@ -23,8 +24,8 @@ returns-in_err-bytes-clause-err g c =
     let got = c.args.got.now in
     let p = err_from_is_err_and c.from_residual.result c.from_residual.ensures.1 in
     rw (p.1, p.2)
-    (file_by told before now c.args.want.now want_file ((got, stream_limit) ∷ []) (GotAnswers got c.args.tolerance.us c.args.tolerance.pixels) fb fn c.in_err-bytes.field-0.0
-    (stream_refuses told before now c.args.want.now bad_want_line fb fn c.in_err-bytes.field-0.0 c.in_err-bytes.ensures.err))
+    (file_by told before now c.args.want.now want_file ((got, stream_limit) ∷ []) (GotAnswers got c.args.rule) fb fn c.in_err-bytes.field-0.0
+    (stream_refuses told before now c.args.want.now input.Want bad_want_line fb fn c.in_err-bytes.field-0.0 c.in_err-bytes.ensures.err))
 
 pub returns-in_err-sections-clause-err : goal.returns-in_err-sections-clause-err
 returns-in_err-sections-clause-err g c =
@@ -38,10 +39,10 @@ returns-in_err-sections-clause-err g c =
     let got = c.args.got.now in
     let whole : IsWhole told before now want stream_limit bytes =
     subst (λ (bs : List ℕ). IsWhole told before now want stream_limit bs) (sym c.deref.ensures.value)
-    (stream_whole told before now want c.in_ok-bytes.bytes.items c.in_ok-bytes.ensures.ok) in
+    (stream_whole told before now want c.in_ok-bytes.bytes.items input.Want c.in_ok-bytes.ensures.ok) in
     let p = err_from_is_err_and c.from_residual-in_err-sections.result c.from_residual-in_err-sections.ensures.1 in
     rw (p.1, p.2)
-    (file_by told before now want want_file ((got, stream_limit) ∷ []) (GotAnswers got c.args.tolerance.us c.args.tolerance.pixels) fb fn c.in_err-sections.field-0.0
+    (file_by told before now want want_file ((got, stream_limit) ∷ []) (GotAnswers got c.args.rule) fb fn c.in_err-sections.field-0.0
     (rule_refuses told before now want want_file bytes fb fn c.in_err-sections.field-0.0 whole c.in_err-sections.ensures.err))
 
 pub returns-clause-ok : goal.returns-clause-ok
@@ -58,12 +59,12 @@ returns-clause-ok g c =
     let got = c.args.got.now in
     let whole : IsWhole told before mid want stream_limit bytes =
     subst (λ (bs : List ℕ). IsWhole told before mid want stream_limit bs) (sym c.deref.ensures.value)
-    (stream_whole told before mid want c.in_ok-bytes.bytes.items c.in_ok-bytes.ensures.ok) in
+    (stream_whole told before mid want c.in_ok-bytes.bytes.items input.Want c.in_ok-bytes.ensures.ok) in
     let sections = c.in_ok-sections.sections in
     let one : IsRead told before mid want want_file (Ok sections) = whole_read told before mid want want_file bytes _ whole c.in_ok-sections.ensures.ok in
     if_ok_map c.answer_got.result _ _
-    (λ text log. file_goes told before mid now want want_file ((got, stream_limit) ∷ []) sections (GotAnswers got c.args.tolerance.us c.args.tolerance.pixels) (Ok text) one
-    (subst (λ (o : Option (List Entry)). Logged o mid now ((got, stream_limit) ∷ []) (λ rs. GotAnswers got c.args.tolerance.us c.args.tolerance.pixels (by_log rs) sections (Ok text))) c.in_ok-bytes.ensures.entries log))
+    (λ text log. file_goes told before mid now want want_file ((got, stream_limit) ∷ []) sections (GotAnswers got c.args.rule) (Ok text) one
+    (subst (λ (o : Option (List Entry)). Logged o mid now ((got, stream_limit) ∷ []) (λ rs. GotAnswers got c.args.rule (by_log rs) sections (Ok text))) c.in_ok-bytes.ensures.entries log))
     c.answer_got.ensures.ok
 
 pub returns-clause-err : goal.returns-clause-err
@@ -80,11 +81,11 @@ returns-clause-err g c =
     let got = c.args.got.now in
     let whole : IsWhole told before mid want stream_limit bytes =
     subst (λ (bs : List ℕ). IsWhole told before mid want stream_limit bs) (sym c.deref.ensures.value)
-    (stream_whole told before mid want c.in_ok-bytes.bytes.items c.in_ok-bytes.ensures.ok) in
+    (stream_whole told before mid want c.in_ok-bytes.bytes.items input.Want c.in_ok-bytes.ensures.ok) in
     let sections = c.in_ok-sections.sections in
     let one : IsRead told before mid want want_file (Ok sections) = whole_read told before mid want want_file bytes _ whole c.in_ok-sections.ensures.ok in
     if_err_map c.answer_got.result _ _
-    (λ r h. then_by told before mid now want want_file ((got, stream_limit) ∷ []) sections (GotAnswers got c.args.tolerance.us c.args.tolerance.pixels) fb fm fn r c.in_ok-bytes.ensures.later one
-    (subst (λ (o : Option (List Entry)). RefusesBy (λ x. Logged o mid now ((got, stream_limit) ∷ []) (λ rs. GotAnswers got c.args.tolerance.us c.args.tolerance.pixels (by_log rs) sections (Err x)))
+    (λ r h. then_by told before mid now want want_file ((got, stream_limit) ∷ []) sections (GotAnswers got c.args.rule) fb fm fn r c.in_ok-bytes.ensures.later one
+    (subst (λ (o : Option (List Entry)). RefusesBy (λ x. Logged o mid now ((got, stream_limit) ∷ []) (λ rs. GotAnswers got c.args.rule (by_log rs) sections (Err x)))
     (Logged o mid now ((got, stream_limit) ∷ []) (λ rs. Unit {0})) fm fn r) c.in_ok-bytes.ensures.entries h))
     c.answer_got.ensures.err

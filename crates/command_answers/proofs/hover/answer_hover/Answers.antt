@@ -68,7 +68,7 @@ returns-in_err-hover_text-clause-err g c =
     let log : Logged told mid now ((name, recording_limit) ∷ []) (λ rs. Unit {0}) =
     subst (λ (o : Option (List Entry)). Logged o mid now ((name, recording_limit) ∷ []) (λ rs. Unit {0})) c.in_ok-session.ensures.entries
     (any_log _ mid now name recording_limit [] _ c.in_ok-events.ensures.ok) in
-    rw (p.1, p.2) (more_log told before mid now c.args.names.session.now session_limit ((name, recording_limit) ∷ []) _ _ c.in_ok-session.ensures.ok log)
+    rw (p.1, p.2) (more_log told before mid now c.args.names.session.now session_file ((name, recording_limit) ∷ []) _ _ c.in_ok-session.ensures.ok log)
 
 pub returns-clause-ok : goal.returns-clause-ok
 returns-clause-ok g c =

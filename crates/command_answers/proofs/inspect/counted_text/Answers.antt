@@ -2,7 +2,7 @@
 use Rattle.std.proofs.Common.{[], ◌∷◌, Ok, Err, refl, sym, subst}
 use Rattle.std.proofs.lemmas.Result.{err_from_is_err_and}
 use Rattle.command_files.specs.declared.refusal.Refusal.{Refusal}
-use Rattle.command_files.specs.declared.refusal.Subject.TheVariants as subject
+use Rattle.command_files.specs.declared.refusal.Input.TheVariants as input
 use Rattle.command_files.specs.Devices.{devices_of}
 use Rattle.command_files.specs.Inputs.{lined_file, recording_limit}
 use Rattle.command_files.specs.Judged.{Ends, by_log}
@@ -56,4 +56,4 @@ returns-in-Err-clause-err g c =
     subst (λ (r : Refusal). RefusesBy (λ x. Logged told before now ((c.args.name.now, recording_limit) ∷ []) (λ rs. CountsAnswer c.args.name.now (by_log rs) session (Err x)))
     (Logged told before now ((c.args.name.now, recording_limit) ∷ []) (λ rs. Unit {0})) fb fn r) (sym c.read_refusal.ensures)
     (file_by told before now c.args.name.now kind [] (λ rest given. Ends (InspectAnswers session given) rest) fb fn _
-    (read_refused told before now c.args.name.now kind fb fn subject.Recording c.in-Err.error refl c.in-Err.ensures.err))
+    (read_refused told before now c.args.name.now kind fb fn input.Recording c.in-Err.error refl refl c.in-Err.ensures.err))

@@ -1,7 +1,7 @@
 -- The file of a recording and its text.
 use Rattle.std.proofs.Common.{[], ◌∷◌, Ok, Err, refl, sym, subst}
 use Rattle.command_files.specs.declared.refusal.Refusal.{Refusal}
-use Rattle.command_files.specs.declared.refusal.Subject.TheVariants as subject
+use Rattle.command_files.specs.declared.refusal.Input.TheVariants as input
 use Rattle.command_files.specs.Devices.{devices_of}
 use Rattle.command_files.specs.Inputs.{events_file, recording_limit}
 use Rattle.command_files.specs.Judged.{Ends, by_log}
@@ -45,4 +45,4 @@ returns-in-Err-clause-err g c = λ p begins.
     subst (λ (r : Refusal). RefusesBy (λ x. Logged told before now ((c.args.name.now, recording_limit) ∷ []) (λ rs. RecordingSends c.args.sending c.args.name.now (by_log rs) p (Err x)))
     (Logged told before now ((c.args.name.now, recording_limit) ∷ []) (λ rs. Unit {0})) fb fn r) (sym c.read_refusal.ensures)
     (file_by told before now c.args.name.now kind [] (λ rest given. Ends (RunSends c.args.sending p given) rest) fb fn _
-    (read_refused told before now c.args.name.now kind fb fn subject.Recording c.in-Err.error refl c.in-Err.ensures.err))
+    (read_refused told before now c.args.name.now kind fb fn input.Recording c.in-Err.error refl refl c.in-Err.ensures.err))

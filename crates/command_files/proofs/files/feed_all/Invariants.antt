@@ -1,4 +1,5 @@
-use Rattle.std.proofs.Common.{◌≡◌, ◌+◌, ◌-◌, ◌≤◌, false, length, vec_len}
+use Rattle.std.proofs.Common.{◌≡◌, ◌+◌, ◌-◌, ◌≤◌, length, vec_len}
+use Rattle.outside_io.specs.Trace.{going as goes_on}
 use Rattle.command_files.specs.Reading.{GivesMore}
 use Rattle.command_files.proofs.files.feed_all.Given as goal
 
@@ -11,7 +12,7 @@ invariant-pieces g l =
       buffer : vec_len l.buffer ≡ 65536;
       gives : GivesMore (g.S.Source.left l.initial.source) (g.S.Source.left l.source) (g.S.Source.reading l.initial.source) (g.S.Source.reading l.source);
       later : g.S.Source.faults l.initial.source ≤ g.S.Source.faults l.source;
-      going : (g.S.Source.reading l.source).ended ≡ false;
+      going : (g.S.Source.reading l.source).stage ≡ goes_on;
       loan : g.S.Source.loan l.source ≡ g.S.Source.loan l.initial.source;
       takes : g.T.Taker.takes l.beside l.initial.taker l.taker (g.S.Source.reading l.source).given;
     }

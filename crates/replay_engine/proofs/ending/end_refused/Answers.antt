@@ -9,7 +9,7 @@ returns-clause-line g c =
       | in-Recording w ↦ rw (w.in-Recording.is, w.err-is) w.tell_recording.ensures.line
       | in-Order w ↦ rw (w.in-Order.is, w.err-is) w.tell_order.ensures.line
       | in-Stream w ↦ rw (w.in-Stream.is, w.err-is) w.tell_stream.ensures.line
-      | in-ReadFailed w ↦ rw (w.in-ReadFailed.is, w.err-is) w.tell.ensures.line
-      | in-NoMemory w ↦ rw (w.in-NoMemory.is, w.err-is) w.tell-in-NoMemory.ensures.line
+      | in-ReadFailed w ↦ rw (w.in-ReadFailed.is, w.err-is) w.tell_unread.ensures.line
+      | in-NoMemory w ↦ rw (w.in-NoMemory.is, w.err-is) w.tell.ensures.line
       | in-TooLong w ↦ rw (w.in-TooLong.is, w.err-is) w.tell_too_long.ensures.line
     ]

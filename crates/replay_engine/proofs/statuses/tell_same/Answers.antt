@@ -4,7 +4,7 @@ use Rattle.replay_engine.proofs.statuses.tell_same.Goals as goal
 
 pub returns-in-Differs-clause-line : goal.returns-in-Differs-clause-line
 unfolding refusal_line
-returns-in-Differs-clause-line g c = rw c.in-Differs.is c.tell_numbers.ensures.line
+returns-in-Differs-clause-line g c = rw c.in-Differs.is c.tell_differs.ensures.line
 
 pub returns-in-Missing-clause-line : goal.returns-in-Missing-clause-line
 unfolding refusal_line

@@ -3,8 +3,8 @@ use Rattle.std.proofs.Common.{map, string_bytes, sym, refl, subst}
 use Rattle.command_answers.specs.Program.{IsAlone}
 use Rattle.command_words.specs.CommandView.{alone_view}
 use Rattle.replay_engine.specs.Outcome.{Asked, SinkEnds, asked, sink_ends}
-use Rattle.replay_engine.proofs.Answering.{came_so, comes_usage, formed}
-use Rattle.replay_engine.proofs.Endings.{ends_usage}
+use Rattle.replay_engine.proofs.Answering.{came_so, comes_fault, formed}
+use Rattle.replay_engine.proofs.Endings.{ends_fault}
 use Rattle.replay_engine.proofs.top.run_alone.Goals as goal
 
 pub returns-in-Some-Alone-clause-ends : goal.returns-in-Some-Alone-clause-ends
@@ -25,5 +25,5 @@ returns-in-None-clause-ends g c =
     (g.F.Files.faults c.args.files.now) (g.F.Files.faults c.args.files.now) in
     let out : SinkEnds = sink_ends (g.O.Sink.faults c.args.out.now) (g.O.Sink.faults c.args.out.now) (g.O.Sink.writing c.args.out.now) (g.O.Sink.writing c.args.out.now) in
     let err : SinkEnds =
-    sink_ends (g.E.Sink.faults c.args.err.now) (g.E.Sink.faults c.end_with-in-None.new.err) (g.E.Sink.writing c.args.err.now) (g.E.Sink.writing c.end_with-in-None.new.err) in
-    ends_usage q out err c.end_with-in-None.result c.end_with-in-None.ensures.status (comes_usage q (sym c.in-None.ensures.value) refl) refl c.end_with-in-None.ensures.line
+    sink_ends (g.E.Sink.faults c.args.err.now) (g.E.Sink.faults c.end_words-in-None.new.err) (g.E.Sink.writing c.args.err.now) (g.E.Sink.writing c.end_words-in-None.new.err) in
+    ends_fault q out err c.end_words-in-None.result c.end_words-in-None.ensures.status (comes_fault q (sym c.in-None.ensures.value) refl) refl c.end_words-in-None.ensures.line

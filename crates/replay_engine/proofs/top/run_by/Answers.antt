@@ -6,8 +6,8 @@ use Rattle.replay_engine.specs.Outcome.{Asked, SinkEnds, asked, sink_ends}
 use Rattle.command_answers.specs.Program.{IsAlone}
 use Rattle.command_answers.specs.RaceEnds.{PrintsEnd}
 use Rattle.replay_actors.specs.Starts.{EndBy}
-use Rattle.replay_engine.proofs.Answering.{alone_is, came_so, comes_usage, formed}
-use Rattle.replay_engine.proofs.Endings.{ends_usage}
+use Rattle.replay_engine.proofs.Answering.{alone_is, came_so, comes_fault, formed}
+use Rattle.replay_engine.proofs.Endings.{ends_fault}
 use Rattle.replay_engine.proofs.top.run_by.Goals as goal
 
 pub returns-in-Some-Race-clause-ends : goal.returns-in-Some-Race-clause-ends
@@ -27,13 +27,13 @@ returns-in-None-clause-ends g c =
     (g.F.Files.faults c.args.files.now) (g.F.Files.faults c.args.files.now) in
     let out : SinkEnds = sink_ends (g.O.Sink.faults c.args.out.now) (g.O.Sink.faults c.args.out.now) (g.O.Sink.writing c.args.out.now) (g.O.Sink.writing c.args.out.now) in
     let err : SinkEnds =
-    sink_ends (g.E.Sink.faults c.args.err.now) (g.E.Sink.faults c.end_with.new.err) (g.E.Sink.writing c.args.err.now) (g.E.Sink.writing c.end_with.new.err) in
-    ends_usage q out err c.end_with.result c.end_with.ensures.status (comes_usage q (sym c.in-None.ensures.value) refl) refl c.end_with.ensures.line
+    sink_ends (g.E.Sink.faults c.args.err.now) (g.E.Sink.faults c.end_words.new.err) (g.E.Sink.writing c.args.err.now) (g.E.Sink.writing c.end_words.new.err) in
+    ends_fault q out err c.end_words.result c.end_words.ensures.status (comes_fault q (sym c.in-None.ensures.value) refl) refl c.end_words.ensures.line
 
 pub returns-in-Some-Race-clause-raced : goal.returns-in-Some-Race-clause-raced
 returns-in-Some-Race-clause-raced g c = λ files is done.
     let (text, came, wrote) = c.end_answered.ensures.whole done in
-    (text, subst (λ a. IfOk a (PrintsEnd (EndBy (λ s end. goal.K-post g c.args.runner.now s (Ok end))))) came c.answer_race-answer.ensures.left, wrote)
+    (text, subst (λ a. IfOk a (PrintsEnd (EndBy (λ s end. goal.K-post g c.args.runner s (Ok end))))) came c.answer_race-answer.ensures.left, wrote)
 
 pub returns-in-Some-Alone-clause-raced : goal.returns-in-Some-Alone-clause-raced
 returns-in-Some-Alone-clause-raced g c = λ files is done.

@@ -1,5 +1,5 @@
 -- The borrow is opened, and closed at the end.
-use Rattle.std.proofs.Common.{List, [], ◌∷◌, true, refl}
+use Rattle.std.proofs.Common.{List, [], ◌∷◌, refl}
 use mir.Syntax.{named}
 use mir.Val.{Val, vunit}
 use base.Fml.{ftrue, flft}
@@ -13,6 +13,7 @@ use denote.Signature.{plain}
 use denote.Steps.{opens, closes}
 use denote.Triple.Walked.{says, Stays, stay_ref, Goes-ref, ends_at}
 use Rattle.std.proofs.raw_atomic.Walks.{proved}
+use Rattle.outside_io.specs.Trace.{at_end}
 use Rattle.outside_io.specs.declared.reading.ReadingTrace.{ReadingTrace}
 use Rattle.outside_io.specs.contracts.reading.ReadingTrace as T
 use Rattle.outside_io.specs.contracts.reading.ReadingTrace.end as f
@@ -29,7 +30,7 @@ end_spec 𝓤 𝓛 𝓜 𝓡 wired =
     f.Key.name code.function (code.unfolded 𝓤 𝓛.H 𝓜 𝓡 wired)
     (λ κs. (mut_vals, tt)) (λ κs. (mut_Tells (named 0) κs.0 T.the_row, tt)) (λ κs qs bounds a _ are.
     let b = a.0.ref_ptr.0 in let o = a.0.ref_ptr.1 in let h : ReadingTrace = a.0.now in
-    let h' : ReadingTrace = record { reading = record h.reading { ended = true } } in
+    let h' : ReadingTrace = record { reading = record h.reading { stage = at_end } } in
     let at : List Val × Unit {0} = (mut_vals a.0, tt) in
     qed 𝓛 (((‵ (flft κs.0 qs.0) ⊛ ‵ ftrue) ⊛ ‵ (owns (MutRef (named 0) κs.0 T.the_row ∷ []) a at)) ∷ ‵ ftrue ∷ []) ∵
     keep ! (0 ∷ []) $ split ! $ split ! $ move ! (2 ∷ []) $ fsplit ! $ fsplit3 ! $ drop ! $ move ! (0 ∷ 1 ∷ 3 ∷ []) $

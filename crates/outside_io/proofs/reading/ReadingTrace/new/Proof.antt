@@ -1,5 +1,5 @@
 -- `new` makes the value without a field, and its list is empty.
-use Rattle.std.proofs.Common.{[], ◌∷◌, false, refl}
+use Rattle.std.proofs.Common.{[], ◌∷◌, refl}
 use types.Kit.{‵, raw, ◌$◌, ◌∵◌, !, qed, done, keep, join, fjoin, suffices}
 use types.Part.{agg}
 use types.Run.{enter, returns, no_more}
@@ -10,13 +10,14 @@ use denote.Triple.Entry.{on_entry}
 use denote.Triple.Walked.{says, ends_at}
 use Rattle.std.proofs.raw_atomic.Walks.{proved}
 use Rattle.outside_io.proofs.Walks.{blank, bare_made}
+use Rattle.outside_io.specs.Trace.{going}
 use Rattle.outside_io.specs.declared.reading.ReadingTrace.{ReadingTrace}
 use Rattle.outside_io.specs.contracts.reading.ReadingTrace.new as f
 use Rattle.outside_io.proofs.reading.ReadingTrace.new.Statement.{statement}
 use Rattle.outside_io.proofs.reading.ReadingTrace.new.Code as code
 
 abbrev made : ReadingTrace
-made = record { reading = record { name = []; given = []; ended = false } }
+made = record { reading = record { name = []; given = []; stage = going } }
 
 pub new_spec : {M : Type 1} → statement M
 new_spec 𝓤 𝓛 𝓜 𝓡 wired =
