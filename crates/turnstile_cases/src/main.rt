@@ -6,9 +6,7 @@ mod counter;
 mod counting;
 mod dispatching;
 mod flags;
-mod held_core;
 mod held_counter;
-mod made;
 
 use std::io;
 
