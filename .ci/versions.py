@@ -1,6 +1,7 @@
 """Where this tree names its version, and which of these places differ from CHANGELOG.md, whose newest numbered heading packaging/version prints.
 
-Files have the number of that release. `+next`, which packaging/version puts behind it while there is more, is only in what is made of the tree."""
+Files have the number of that release. `+next`, which packaging/version puts behind it while there is more, is only in what is made of the tree, and in
+the program's own line."""
 import functools
 import os
 import re
@@ -10,6 +11,8 @@ TOP = os.path.dirname(os.path.dirname(os.path.abspath(__file__)))
 NEXT = "## Not yet released"
 HEADING = re.compile(r"## (\d+\.\d+\.\d+), (\d{4}-\d\d-\d\d)")
 SONAME = re.compile(r"libinputflinger(?:\.so\.| ?)(\d+)|\bINPUTFLINGER_(\d+)")
+# The line of `inputflinger --version`.
+OF_PROGRAM = "crates/help_text/src/version.rt"
 OF_DIST = ["dist/MANIFEST", "dist/inputflinger.h", "dist/inputflinger.html"]
 
 
@@ -24,10 +27,15 @@ def parts(number):
 
 
 @functools.lru_cache(None)
+def version():
+    """What packaging/version prints."""
+    return subprocess.run([os.path.join(TOP, "packaging/version")], stdout=subprocess.PIPE, text=True, check=True).stdout.strip()
+
+
+@functools.lru_cache(None)
 def release():
     """The number of the newest release, and its date."""
-    ran = subprocess.run([os.path.join(TOP, "packaging/version")], stdout=subprocess.PIPE, text=True, check=True)
-    number = ran.stdout.strip().partition("+")[0]
+    number = version().partition("+")[0]
     date = re.search("^## %s, (.*)$" % re.escape(number), text_of("CHANGELOG.md"), re.M)
     return number, date[1] if date else "no date"
 
@@ -37,8 +45,8 @@ def manifest(key):
     return found[1] if found else "no %s" % key
 
 
-def macros(version):
-    values = version.partition("+")[0].split(".")
+def macros(numbers):
+    values = numbers.partition("+")[0].split(".")
     return [("^#define INPUTFLINGER_VERSION_%s (.*)$" % part, value) for part, value in zip(("MAJOR", "MINOR", "MICRO"), values)]
 
 
@@ -48,6 +56,8 @@ def wanted(name):
     given = "CHANGELOG.md has %s" % number
     if name == "include/inputflinger.h":
         return given, macros(number)
+    if name == OF_PROGRAM:
+        return "packaging/version prints %s" % version(), [(r'^pub const VERSION: &str = "inputflinger (.*)\\n";$', version())]
     if name in ("rust/inputflinger/Cargo.toml", "rust/inputflinger/Cargo.lock"):
         return given, [('^name = "inputflinger"\nversion = "(.*)"$', number)]
     if name.startswith("man/"):
@@ -88,6 +98,7 @@ def names():
     for where, folders, files in os.walk(TOP):
         folders[:] = sorted(f for f in folders if f not in (".git", "out", "target", "build", "__pycache__") and (where != TOP or f not in ("crates", "dist")))
         yield from (os.path.relpath(os.path.join(where, name), TOP) for name in sorted(files) if os.path.isfile(os.path.join(where, name)))
+    yield OF_PROGRAM
     yield from (name for name in OF_DIST if os.path.exists(os.path.join(TOP, name)))
 
 

@@ -6,6 +6,7 @@ from collections import Counter
 from .causes import Causes
 from .delivery import delivered, named
 from .laws import FOCUS, KEY, MOTION, ends_so, moments, need, sections
+from .make import Window, owned
 from .recording import KEY as KEY_EVENT
 from .recording import DROPPED, REPORT, SYN, Down, read
 from .replayed import removals
@@ -82,7 +83,7 @@ def answers(case, told, last):
 
 
 def wide(case, rng):
-    """Windows over halves of the displays or all of one, with flags, often a spy in front."""
+    """Windows of some owners over halves of the displays or all of one, with flags, often a spy in front."""
     names = [channel[0] for channel in case.channels]
     windows = []
     for k, name in enumerate(rng.sample(names, len(names))):
@@ -92,7 +93,8 @@ def wide(case, rng):
             width, height = height, width
         frame = rng.choice(((0, 0, width // 2, height), (width // 2, 0, width, height), (0, 0, width, height)))
         spy = k < 2 and rng.random() < 0.6
-        windows.append((name, display, frame, ["SPY"] if spy else [rng.choice(("PREVENT_SPLITTING", "SLIPPERY", "NOT_FOCUSABLE"))], None))
+        flag = "SPY" if spy else rng.choice(("PREVENT_SPLITTING", "SLIPPERY", "NOT_FOCUSABLE", "NOT_TOUCHABLE"))
+        windows.append(owned(rng, Window(name, display, frame, [flag])))
     return windows
 
 

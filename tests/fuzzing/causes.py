@@ -3,12 +3,13 @@ import re
 from collections import Counter
 
 from .laws import need
+from .trust import blockers
 
 SET = r"((?:\d+,)*\d+|-)"
 ONE = r"(\d+|-)"
 AT = r"(\d) (\d+) (-?\d+),(-?\d+)"
 LOST = r"((?:(?:key )?\d:[\d,]+ ?)+(?<! )|-)"
-SETS = r" spies %s pilfering %s given %s mute %s outside %s" % ((SET,) * 5)
+SETS = r" spies %s pilfering %s given %s mute %s outside %s((?: blocked \d+ by [\d,]+)*)" % ((SET,) * 5)
 # The lines by their first words.
 FORMS = {
     "windows": r"windows((?: \d+@\d(?::-?\d+|,-?\d+)+)*)",
@@ -63,7 +64,7 @@ class Causes:
         # By window: its pointers and its keys as (device, number), and by device since which line it holds some.
         self.holds, self.keys, self.since = ({n: {} for n in self.numbers.values()} for _ in range(3))
         self.pilferers, self.mute, self.removed = set(), set(), set()
-        self.windows, self.focus, self.asked, self.key_target, self.focused = {}, {}, 0, None, set()
+        self.shown, self.windows, self.focus, self.asked, self.key_target, self.focused = [], {}, {}, 0, None, set()
         # The pointers and keys that are down; the moment, the number of the line, and where in its step it stands.
         self.down, self.at, self.count, self.rank = set(), 0, 0, (0, 0)
 
@@ -149,9 +150,10 @@ class Causes:
 
     def on_windows(self, listed):
         what = self.act("windows")
-        wanted = "".join(" %d@%d:%d,%d,%d,%d" % ((self.numbers[name], display) + frame) for name, display, frame, _, _ in what)
+        wanted = "".join(" %d@%d:%d,%d,%d,%d" % ((self.numbers[window.name], window.display) + window.frame) for window in what)
         need(listed == wanted, "windows are%s, and not%s" % (listed, wanted))
-        self.windows = {self.numbers[name]: (display, frame, flags, k) for k, (name, display, frame, flags, _) in enumerate(what)}
+        self.shown = what
+        self.windows = {self.numbers[window.name]: window[1:4] + (k,) for k, window in enumerate(what)}
 
     def flagged(self, windows, flag):
         return [window for window in windows if flag in self.windows[window][2]]
@@ -169,8 +171,16 @@ class Causes:
         alone = self.flagged([touched], "PREVENT_SPLITTING") and not self.has(touched, device)
         return (first, "whole") if alone else (touched, "split")
 
+    def blocked_by(self, device, window, x, y):
+        """The windows that block a window where a pointer of a device is, by their numbers."""
+        display = self.displays[device - 1]
+        there = [w for w in self.shown if w.display == display and self.numbers[w.name] not in self.removed]
+        name = next(name for name, number in self.numbers.items() if number == window)
+        return sorted(self.numbers[name] for name in blockers(there, name, (int(x), int(y))))
+
     def on_down(self, device, number, x, y, touched, row, chosen, *sets):
         device, number = int(device), int(number)
+        *sets, listed = sets
         self.see("down", device, number)
         spies, pilfering, given, mute, outside = (set(rising(word)) for word in sets)
         need(spies <= set(self.flagged(self.windows, "SPY")), "at %d are no spies: %s" % (self.at, spies))
@@ -179,7 +189,11 @@ class Causes:
         candidates = spies | {one(chosen)} - {None}
         need(pilfering == {w for w in candidates if (w, device) in self.pilferers}, "at %d are pilfering %s" % (self.at, pilfering))
         targets = pilfering or candidates
-        need(mute == targets & self.mute and given == targets - mute, "at %d targets %s: %s, %s" % (self.at, targets, given, mute))
+        blocked = {w: by for w, by in ((w, self.blocked_by(device, w, x, y)) for w in sorted(targets - self.mute)) if by}
+        wanted = "".join(" blocked %d by %s" % (w, ",".join(map(str, by))) for w, by in blocked.items())
+        need(listed == wanted, "at %d are%s, and not%s" % (self.at, listed, wanted))
+        rest = targets - mute - set(blocked)
+        need(mute == targets & self.mute and given == rest, "at %d targets %s: %s, %s" % (self.at, targets, given, mute))
         need(not self.holders((device, number)), "at %d a pointer goes down that is held" % self.at)
         for window in sorted(given):
             self.give(window, device, number, x, y)
@@ -190,6 +204,7 @@ class Causes:
     def on_slip(self, device, number, x, y, start, end):
         device, number, start, end = int(device), int(number), int(start), int(end)
         need(self.flagged([start], "SLIPPERY"), "a pointer slips from window %d" % start)
+        need(not self.blocked_by(device, end, x, y), "a pointer slips to window %d, which is blocked" % end)
         self.take("lost", start, device, number)
         self.give(end, device, number, x, y)
 

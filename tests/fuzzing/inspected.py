@@ -11,6 +11,9 @@ DEVICE = re.compile(
     r"(?: packets (\d+) fingers (\d+) palms (\d+) clamped (\d+) strayed (\d+)| downs (\d+) unnamed (\d+)) args (\d+)"
 )
 HINT = re.compile(r"hint device (\d) (silent|single touch|protocol A|no fingers|no keys|still down \d+(?:,\d+)*)")
+COUNTED = re.compile(r"hint (?:device \d (?:clamped|drops) \d+|clock back \d+|byte order mark)")
+LAST = ("hint steps after", "hint no device")
+MARK = b"\xef\xbb\xbf"
 # What a reader of a touch device looks at of EV_ABS: slots, positions, tool types and tracking ids.
 LOOKED_AT = (SLOT, 0x35, 0x36, TOOL, TRACKING)
 
@@ -81,6 +84,36 @@ def steps_law(case, events, text):
     need(("hint steps after" in text) == (after > 0), "the hint at late steps")
 
 
+def counted_law(devices, events, recording, text):
+    """The hints at counts that are not 0, at a clock that goes back and at a byte order mark, behind those of the devices."""
+    wanted = []
+    for match in devices:
+        for name, count in (("clamped", match.group(10)), ("drops", match.group(6))):
+            if int(count or 0):
+                wanted.append("hint device %s %s %s" % (match.group(1), name, count))
+    latest = back = 0
+    for event in events:
+        back += event[0] < latest
+        latest = max(latest, event[0])
+    wanted += ["hint clock back %d" % back] * (back > 0) + ["hint byte order mark"] * recording.startswith(MARK)
+    said = [line for line in text if COUNTED.fullmatch(line)]
+    need(said == wanted, "the hints are %r, and not %r" % (said, wanted))
+    hints = [line for line in text if line.startswith("hint ")]
+    places = [2 if line in LAST else 1 if COUNTED.fullmatch(line) else 0 for line in hints]
+    need(places == sorted(places), "the order of %r" % hints)
+
+
+def marked(program, case, text):
+    """A byte order mark in a line of its own in front is one line of another form more, and a hint."""
+    recording = MARK + b"\n" + case.recording
+    out = program.text(["inspect"] + program.files(case.session, recording)).decode("ascii").split("\n")
+    counts = [int(n) for n in LINES.fullmatch(text[0]).groups()]
+    first = "lines %d blank %d other %d unknown %d events %d" % (counts[0] + 1, counts[1], counts[2] + 1, *counts[3:])
+    before = [line for line in text[1:] if line not in LAST]
+    wanted = [first] + before + ["hint byte order mark"] + [line for line in text if line in LAST] + [""]
+    need(out == wanted, "with a byte order mark it says %r and not %r" % (out, wanted))
+
+
 def inspected(program, case, told):
     """What `inspect` says of a case is what its lines say; the args of the devices are those that `check` takes."""
     out = program.text(["inspect"] + program.files(case.session, case.recording))
@@ -101,6 +134,8 @@ def inspected(program, case, told):
     need(sum(int(m.group(3)) for m in devices) == counts[4], "the events of the devices are not all")
     still_down(case, known, hints)
     steps_law(case, known, text)
+    counted_law(devices, known, case.recording, text)
+    marked(program, case, text)
     need(not any(line.startswith("key ") for line in text), "a key that nothing reads")
     if args <= 2000:
         args_of(program, case, args)

@@ -152,15 +152,22 @@ def points(told):
 
 def compared(program, case, told):
     """A text is the same as itself, as one without its moves, and as one with a point that is off by no more than is
-    allowed; a point that is off by one more, has another id, or is not there, is told with its line."""
+    allowed, and it is told how far that is; a point that is off by one more, has another id, or is not there, is told
+    with its line. With each move a point, moves are missing in a text without them; a channel of it is the same as its
+    own section alone."""
     rng = case.drawn("compared")
     places = list(points(told))
     text = written(told)
-    same = "same %d %d\n" % (len(told[0]), len(places))
+
+    def same(us, pixels):
+        return "same %d %d us %d pixels %d\n" % (len(told[0]), len(places), us, pixels)
+
     bare = [(c[0], c[1], [m for m in c[2] if " MOVE " not in m]) for c in told[0]]
     bare = [(number, name, numbered(messages), (len(messages), 0, 0)) for number, name, messages in bare]
     for other in (text, written((bare, []))):
-        both_ways(program, text, other, (0, 0), same, same)
+        both_ways(program, text, other, (0, 0), same(0, 0), same(0, 0))
+    each_move(program, told, text, written((bare, [])))
+    of_a_channel(program, told, text, places, rng)
     gone = rng.randrange(len(told[0]))
     line_of = 1 + sum(len(c[2]) + 2 for c in told[0][:gone])
     less = written((told[0][:gone] + told[0][gone + 1 :], told[1]))
@@ -169,7 +176,7 @@ def compared(program, case, told):
         return
     k, j, at = rng.choice(places)
     messages = told[0][k][2]
-    differs = "compare: Differs %d %d\n" % (at, at)
+    differs = "compare: Differs %d %d %%s\n" % (at, at)
 
     def changed(message):
         return written(with_messages(told, k, messages[:j] + [message] + messages[j + 1 :]))
@@ -177,8 +184,8 @@ def compared(program, case, told):
     off = rng.choice((1, 7, 1000, 10**9))
     seq, moment, rest = messages[j].split(" ", 2)
     late = changed("%s %d %s" % (seq, int(moment) + off, rest))
-    both_ways(program, text, late, (off, 0), same, same)
-    both_ways(program, text, late, (off - 1, 16384), differs, differs)
+    both_ways(program, text, late, (off, 0), same(off, 0), same(off, 0))
+    both_ways(program, text, late, (off - 1, 16384), differs % ("time %d" % off), differs % ("time %d" % -off))
     if MOTION.fullmatch(messages[j]):
         moved_or_another(program, text, changed, messages[j], differs, same, rng)
     last = max(place[1] for place in places if place[0] == k)
@@ -193,20 +200,48 @@ def moved_or_another(program, text, changed, message, differs, same, rng):
     at = rng.randrange(len(listed))
     number, *place = (int(n) for n in re.split("[@,]", listed[at]))
     off = rng.choice((1, 3, 16384))
-    place[rng.randrange(2)] += rng.choice((off, -off))
+    away = [0, 0]
+    away[rng.randrange(2)] = rng.choice((off, -off))
+    place = [a + b for a, b in zip(place, away)]
     there = changed(" ".join([head] + listed[:at] + ["%d@%d,%d" % (number, *place)] + listed[at + 1 :]))
-    both_ways(program, text, there, (0, off), same, same)
-    both_ways(program, text, there, (10**9, off - 1), differs, differs)
+    both_ways(program, text, there, (0, off), same(0, off), same(0, off))
+    said = [differs % ("place %d,%d" % (sign * away[0], sign * away[1])) for sign in (1, -1)]
+    both_ways(program, text, there, (10**9, off - 1), *said)
     most = int(listed[-1].split("@")[0])
     if most < 31:
         another = " ".join([head] + listed[:-1] + ["%d@%s" % (most + 1, listed[-1].split("@")[1])])
-        both_ways(program, text, changed(another), (10**9, 16384), differs, differs)
+        both_ways(program, text, changed(another), (10**9, 16384), differs % "pointers", differs % "pointers")
 
 
-def both_ways(program, one, other, within, wanted, turned):
+def each_move(program, told, text, bare):
+    """Where each move is a point, a text is the same as itself, and another than one without its moves if it has any."""
+    each = ("--moves", "each")
+    count = sum(len(c[2]) for c in told[0])
+    both_ways(program, text, text, (0, 0), *2 * ["same %d %d us 0 pixels 0\n" % (len(told[0]), count)], each)
+    run = program.compare(text, bare, 10**9, 16384, *each)
+    ends_so(run, 1 if any(" MOVE " in m for c in told[0] for m in c[2]) else 0, run[2].decode())
+
+
+def of_a_channel(program, told, text, places, rng):
+    """The section of a channel is the same as itself alone under another number, and another section is not looked at."""
+    k = rng.randrange(len(told[0]))
+    number, name, messages, counts = told[0][k]
+    other = rng.choice([n for n in range(1, 65) if n != number])
+    alone = written(([(other, name, messages, counts)], []))
+    count = sum(place[0] == k for place in places)
+    same = "same 1 %d us 0 pixels 0\n" % count
+    named = rng.choice(([], ["--got-channel", str(other)]))
+    run = program.compare(text, alone, 0, 0, "--want-channel", str(number), *named)
+    ends_so(run, 0, "")
+    need(run[1] == same.encode(), "compare says %r and not %r" % (run[1], same))
+    ends_so(program.compare(alone, text, 0, 0, "--want-channel", str(number), "--got-channel", str(number)), 1,
+            "compare: NewSection %d\n" % (1 + sum(len(c[2]) + 2 for c in told[0][:k])))
+
+
+def both_ways(program, one, other, within, wanted, turned, options=()):
     """What `compare` says of two texts, and of the same the other way round."""
     for want, got, said in ((one, other, wanted), (other, one, turned)):
-        run = program.compare(want, got, *within)
+        run = program.compare(want, got, *within, *options)
         if said.startswith("same "):
             ends_so(run, 0, "")
             need(run[1] == said.encode(), "compare says %r and not %r" % (run[1], said))

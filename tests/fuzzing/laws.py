@@ -6,11 +6,12 @@ LINES = {
     0: r"",
     1: r"(order: (BadLine|NoStep) \d+|stream: (BadLine|NotWellFormed|TooLate|NotAssignable) \d+|stream: NoChannel"
     r"|stream: Broken \d+ [A-Z][A-Za-z]+|stream: StillDown \d+( \d:\d+(,\d+)*)*( key \d:\d+)*|stream: Nothing"
-    r"|(want|got): BadLine \d+|compare: (Differs \d+|Missing|Added|NoSection|NewSection) \d+)\n",
-    2: r"usage: inputflinger replay\|race\|check\|verify\|work\|batch\|hover\|emit\|inspect\|why\|judge\|compare\n",
+    r"|(want|got): BadLine \d+|compare: (Missing|Added|NoSection|NewSection) \d+"
+    r"|compare: Differs \d+ \d+ (kind|device|action|index|flags|pointers|place -?\d+,-?\d+|scan|code|meta|direction|repeat|focus|time -?\d+))\n",
+    2: r"words: (NoCommand|(UnknownCommand|UnknownOption|Twice|NoValue|Missing) [!-~]{1,64}|BadValue [!-~]{1,64} [!-~]{1,64})\n",
     3: r"(session: (NotToml|(Missing|Wrong|UnknownName) \S+|OutOfRange \S+ -?\d+|BadLayout \d \d+)"
     r"|recording: (BadLine|NoMoment|TooLong) \d+)\n",
-    4: r"read failed\n",
+    4: r"(session|recording|order|stream|want|got): ReadFailed\n",
     5: r"write failed\n",
     6: r"no memory\n",
     7: r"too long: (session|recording|order|stream|steps|run)\n",

@@ -1,10 +1,30 @@
 """Sessions and recordings from a number. A case is valid, nearly valid (a valid one with a few damages), or bytes."""
 import random
+from typing import NamedTuple, Optional
 
 PATHS = ("/dev/input/event2", "/dev/input/event5", "/dev/input/event7", "/dev/input/event9")
-FLAGS = ("NOT_TOUCHABLE", "SPY", "PREVENT_SPLITTING", "SLIPPERY", "WATCH_OUTSIDE_TOUCH", "NOT_FOCUSABLE")
+FLAGS = ("NOT_TOUCHABLE", "SPY", "PREVENT_SPLITTING", "SLIPPERY", "WATCH_OUTSIDE_TOUCH", "NOT_FOCUSABLE", "TRUSTED_OVERLAY")
 LAYOUT = "key 30 A\nkey 42 SHIFT_LEFT\nkey 115 VOLUME_UP\nkey 158 BACK\n"
 SCANS = (30, 42, 115, 158, 999)
+
+
+class Window(NamedTuple):
+    """A window of a step."""
+
+    name: str
+    display: int
+    frame: tuple
+    flags: tuple = ()
+    region: Optional[list] = None
+    owner: int = 0
+    opacity: int = 100
+    occlusion: str = "block"
+
+
+def owned(rng, window):
+    """The window as one of some owner, of some opacity and some occlusion. Most windows are of one owner."""
+    opacity = rng.choice((0, 50, 60, 80, 81, 100, rng.randint(0, 100)))
+    return window._replace(owner=rng.choice((0, 0, 0, 1, 2)), opacity=opacity, occlusion=rng.choice(("block", "opacity", "opacity", "allow")))
 
 
 class Case:
@@ -73,7 +93,7 @@ class Case:
             self.devices.append((kind, path, rng.choice((10, 10, 16, 1, 2)), low, high, display))
 
     def some_windows(self):
-        """Channel, display, frame, flags and region of some windows, front to back."""
+        """Some windows, front to back. Those of about half of the calls trust each other."""
         rng = self.random
         names = [c[0] for c in self.channels]
         rng.shuffle(names)
@@ -86,7 +106,7 @@ class Case:
                 width, height = height, width
             if self.apart:
                 frame = (width * k // len(names), 0, width * (k + 1) // len(names), height)
-                windows.append((name, display, frame, (), None))
+                windows.append(Window(name, display, frame))
                 continue
             left, right = sorted((rng.randint(-10, width), rng.randint(0, width + 10)))
             top, bottom = sorted((rng.randint(-10, height), rng.randint(0, height + 10)))
@@ -95,8 +115,8 @@ class Case:
             if k == 0 and len(names) > 1 and rng.random() < 0.4:
                 flags = [rng.choice(("SPY", "WATCH_OUTSIDE_TOUCH"))]
             halves = [(0, 0, width // 2, height), (width // 3, 0, width, height // 2)]
-            windows.append((name, display, frame, flags, rng.choice((None, None, None, [frame], [], halves))))
-        return windows
+            windows.append(Window(name, display, frame, flags, rng.choice((None, None, None, [frame], [], halves))))
+        return [owned(rng, window) for window in windows] if rng.random() < 0.5 else windows
 
     def some_focus(self):
         """A window that is there and its display, a channel and any display, or nobody."""
@@ -238,10 +258,12 @@ class Keys:
 def act_text(act, what):
     if act == "windows":
         text = "windows = ["
-        for name, display, frame, flags, region in what:
-            text += '\n    { channel = "%s", display = %d, frame = %s' % (name, display, list(frame))
-            text += ", flags = [%s]" % ", ".join('"%s"' % f for f in flags) if flags else ""
-            text += ", region = %s" % [list(r) for r in region] if region is not None else ""
+        for window in what:
+            text += '\n    { channel = "%s", display = %d, frame = %s' % (window.name, window.display, list(window.frame))
+            text += ", flags = [%s]" % ", ".join('"%s"' % f for f in window.flags) if window.flags else ""
+            text += ", region = %s" % [list(r) for r in window.region] if window.region is not None else ""
+            if window[5:] != Window("", 0, ())[5:]:
+                text += ', owner = %d, opacity = %d, occlusion = "%s"' % window[5:]
             text += " },"
         return text + "\n]\n"
     if act == "focus":

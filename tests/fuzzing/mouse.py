@@ -52,9 +52,14 @@ def seen(start, path, moment):
 def frames_of(case, name, moment):
     """The windows of a channel that some step up to a moment set: their corners and, on display 0, their rectangles."""
     for at, _, act, what in case.steps:
-        for channel, display, frame, _, region in what if act == "windows" and at <= moment else ():
-            if channel == name:
-                yield frame[:2], ([frame] if region is None else region) if display == 0 else []
+        for window in what if act == "windows" and at <= moment else ():
+            if window.name == name:
+                yield window.frame[:2], rects_of(window) if window.display == 0 else []
+
+
+def rects_of(window):
+    """The rectangles in which a window can be touched."""
+    return [window.frame] if window.region is None else window.region
 
 
 def inside(rects, place):
@@ -83,11 +88,11 @@ def windows_at(case, moment):
 def candidates(case, removed, moment, place, on=0):
     """The channels whose windows may be under the mouse: those that can be touched there, by the windows of that
     moment."""
-    for name, display, frame, flags, region in windows_at(case, moment):
-        gone = removed.get(name, NEVER) <= moment
-        if display == on and not gone and "SPY" not in flags and "NOT_TOUCHABLE" not in flags:
-            if inside([frame] if region is None else region, place):
-                yield name
+    for window in windows_at(case, moment):
+        gone = removed.get(window.name, NEVER) <= moment
+        if window.display == on and not gone and "SPY" not in window.flags and "NOT_TOUCHABLE" not in window.flags:
+            if inside(rects_of(window), place):
+                yield window.name
 
 
 class Stays:

@@ -4,9 +4,6 @@ import subprocess
 
 from .laws import Broken, ends_so, ending, need, sections
 
-USAGE = b"usage: inputflinger replay|race|check|verify|work|batch|hover|emit|inspect|why|judge|compare\n"
-
-
 # The seconds that a run may take.
 LONGEST = 60
 
@@ -22,7 +19,7 @@ class Program:
         # A printed race that is judged in place of a new one.
         self.race = None
         run = self.run([])
-        need(run == (2, b"", USAGE), "without words it ends with status %d and says %r" % (run[0], run[2][:200]))
+        need(run == (2, b"", b"words: NoCommand\n"), "without words it ends with status %d and says %r" % (run[0], run[2][:200]))
 
     def begin(self):
         """A new case."""
@@ -36,10 +33,11 @@ class Program:
             file.write(text)
         return path
 
-    def run(self, words):
-        command = words[0] if words else "none"
+    def run(self, words, counted=None):
+        """A run of these words, counted among those of their command or of this name."""
+        command = counted or (words[0] if words else "none")
         self.runs[command] = self.runs.get(command, 0) + 1
-        self.last = words
+        self.last = [os.fsdecode(word) for word in words]
         try:
             done = subprocess.run(
                 [self.path] + words, stdin=subprocess.DEVNULL, capture_output=True, timeout=LONGEST, check=False
@@ -81,6 +79,6 @@ class Program:
     def judge(self, out):
         return self.run(["judge", "--stream", self.file("stream.txt", out)])
 
-    def compare(self, want, got, us, pixels):
+    def compare(self, want, got, us, pixels, *options):
         files = ["--want", self.file("want.txt", want), "--got", self.file("got.txt", got)]
-        return self.run(["compare"] + files + ["--us", str(us), "--pixels", str(pixels)])
+        return self.run(["compare"] + files + ["--us", str(us), "--pixels", str(pixels), *options])

@@ -91,6 +91,19 @@ def early(program, case, told):
     alike(short, told, steps[kept][0] - 1)
 
 
+def with_windows(steps, change):
+    """The steps with other windows."""
+    return [step[:3] + ([change(window) for window in step[3]] if step[2] == "windows" else step[3],) for step in steps]
+
+
+def trusting(program, case, told):
+    """Windows of one owner are told the same whatever their opacity and their occlusion are."""
+    steps = with_windows(case.steps, lambda window: window._replace(owner=4294967295))
+    plain = with_windows(case.steps, lambda window: window._replace(owner=0, opacity=100, occlusion="block"))
+    one, other = (program.replay(case.session_text(some).encode(), case.recording) for some in (steps, plain))
+    need(one == other, "windows of one owner are told something else with other opacities")
+
+
 def shuffled(program, case, told):
     """The windows of each step the other way round, where they lie apart and have no flags."""
     if case.apart:

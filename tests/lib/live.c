@@ -470,6 +470,10 @@ static void keys_and_time(void)
 	CHECK(inputflinger_live_focused(&live, 0, &told) == INPUTFLINGER_NOTHING);
 	OK(inputflinger_live_close(&live, 6000000, &client));
 	CHECK(inputflinger_live_due(&live, &number) == INPUTFLINGER_NOTHING && number == 6000000);
+	OK(inputflinger_live_advance(&live, 9000000, &number));
+	OK(inputflinger_live_advance(&live, 7000000, &number));
+	OK(inputflinger_live_clock(&live, &number));
+	CHECK(number == 9000000);
 	OK(inputflinger_live_free(&live));
 }
 

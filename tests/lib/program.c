@@ -17,7 +17,9 @@
 
 #define STREAM "channel 1 main\n1 1000 motion 1 DOWN 0@540,1200\n2 2000 motion 1 UP 0@540,1200\nend 1 sent 2 received 2 finished 2\n"
 #define TOLD "well formed 1 2\n"
-#define UNREAD "read failed\n"
+#define UNREAD "stream: ReadFailed\n"
+#define UNKNOWN "words: UnknownOption --streams\n"
+#define HELP "usage: inputflinger verify --stream FILE\n"
 #define ROOM 100
 
 struct run {
@@ -63,7 +65,12 @@ static void ends(void)
 	CHECK(r.ran.status == 0 && has(r.out, "well formed 0 0\n", 16));
 	/* A word more, which is empty, makes words of no command. */
 	r = run(INPUTFLINGER_NO_ROOM, "verify\n--stream\n1\n\n", 1, ROOM, 7);
-	CHECK(r.ran.status == 2 && has(r.err, "usage: ", 7));
+	CHECK(r.ran.status == 2 && has(r.err, "words: ", 7));
+	r = run(INPUTFLINGER_OK, "verify\n--streams\n1\n", 1, ROOM, ROOM);
+	CHECK(r.ran.status == 2 && r.ran.err_len == strlen(UNKNOWN) && has(r.err, UNKNOWN, strlen(UNKNOWN)) && r.ran.out_len == 0);
+	/* A page of help is a text as any. */
+	r = run(INPUTFLINGER_NO_ROOM, "verify\n-h\n", 0, strlen(HELP), 0);
+	CHECK(r.ran.status == 0 && has(r.out, HELP, strlen(HELP)) && r.ran.err_len == 0 && r.ran.out_len > strlen(HELP));
 }
 
 static void no_room(void)
@@ -76,7 +83,7 @@ static void no_room(void)
 	r = run(INPUTFLINGER_NO_ROOM, "verify\n--stream\n2\n", 1, 0, 4);
 	CHECK(r.ran.status == 4 && r.ran.err_len == strlen(UNREAD) && has(r.err, UNREAD, 4));
 	r = run(INPUTFLINGER_NO_ROOM, "\xff\n", 1, ROOM, 7);
-	CHECK(r.ran.status == 2 && has(r.err, "usage: ", 7));
+	CHECK(r.ran.status == 2 && has(r.err, "words: ", 7));
 	r = run(INPUTFLINGER_NO_ROOM, NULL, 0, 0, 0);
 	CHECK(r.ran.status == 2 && has(r.err, "", 0));
 	CHECK(inputflinger_run("verify\n--stream\n1", 17, files, 1, NULL, 0, NULL, 0, &r.ran) == INPUTFLINGER_NO_ROOM);
