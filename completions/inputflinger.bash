@@ -1,9 +1,9 @@
-# Completions of inputflinger for bash. Made by docs/make-man from docs/COMMANDS.md.
+# Completions of inputflinger for bash. Made by docs/make-man from the program's help.
 _inputflinger() {
     local word=${COMP_WORDS[COMP_CWORD]} before=${COMP_WORDS[COMP_CWORD-1]} options option
     COMPREPLY=()
     if [ "$COMP_CWORD" -eq 1 ]; then
-        mapfile -t COMPREPLY < <(compgen -W 'replay race check verify work batch hover emit inspect why judge compare' -- "$word")
+        mapfile -t COMPREPLY < <(compgen -W 'replay race check verify work batch hover emit inspect why judge compare --help --version' -- "$word")
         return
     fi
     case ${COMP_WORDS[1]} in
@@ -18,9 +18,11 @@ _inputflinger() {
         inspect) options='--session --events' ;;
         why) options='--session --events' ;;
         judge) options='--stream' ;;
-        compare) options='--want --got --us --pixels' ;;
+        compare) options='--want --got --us --pixels --want-channel --got-channel --moves' ;;
         *) return ;;
     esac
+    # The help of a command is a word alone.
+    if [ "$COMP_CWORD" -eq 2 ]; then options="$options --help"; fi
     # Behind an option its value, also as --name=value, of which bash makes three words.
     if [ "$word" = = ]; then
         word=''
@@ -28,6 +30,7 @@ _inputflinger() {
         before=${COMP_WORDS[COMP_CWORD-2]}
     fi
     case $before in
+        --moves) mapfile -t COMPREPLY < <(compgen -W 'none each' -- "$word") && return ;;
         --events|--got|--mouse|--order|--session|--stream|--want)
             compopt -o filenames 2>/dev/null
             mapfile -t COMPREPLY < <(compgen -f -- "$word")

@@ -72,7 +72,8 @@
  * INPUTFLINGER_OUT_OF_RANGE. No other struct ever changes.
  *
  * Times are microseconds of a clock of your own, at most 10^18. Each call that takes the time now accepts an earlier one
- * than the call before it: the latest time that was handed in counts.
+ * than the call before it: the latest time that was handed in counts. A call that is refused and changes nothing hands
+ * in no time.
  */
 #ifndef INPUTFLINGER_H
 #define INPUTFLINGER_H
@@ -600,7 +601,7 @@ int inputflinger_live_open(struct inputflinger_live *live, struct inputflinger_c
  *     INPUTFLINGER_OK            the client is stale from now on
  *     INPUTFLINGER_OUT_OF_RANGE  now_us
  *     INPUTFLINGER_NOT_OPEN      the client is not open
- *     INPUTFLINGER_NO_MEMORY     the client is still open, but may have lost its window and its focus requests
+ *     INPUTFLINGER_NO_MEMORY     the client is still open, but may have lost its window, its focus requests and messages
  */
 int inputflinger_live_close(struct inputflinger_live *live, uint64_t now_us, const struct inputflinger_client *client);
 
@@ -724,7 +725,7 @@ int inputflinger_live_finish(struct inputflinger_live *live, uint64_t now_us, co
 
 /*
  * Reports the first time at which something is due: a client that leaves a message unfinished for the limit, or the
- * repeat of a held key. It may be later than 10^18.
+ * repeat of a held key. It may be later than 10^18. While input waits for memory, it is the clock.
  *
  *     INPUTFLINGER_OK       moment_us is written
  *     INPUTFLINGER_NOTHING  nothing is due
@@ -733,7 +734,7 @@ int inputflinger_live_due(const struct inputflinger_live *live, uint64_t *moment
 
 /*
  * Runs everything that is due up to now, each at its time, after input that still waits for memory. mask has the channels
- * that were reported as unresponsive by this call, and by calls before it that ran out of memory.
+ * of the open clients that were reported as unresponsive by this call, and by calls before it that ran out of memory.
  *
  *     INPUTFLINGER_OK            mask is written
  *     INPUTFLINGER_OUT_OF_RANGE  now_us
@@ -797,10 +798,12 @@ struct inputflinger_ran {
  *     input                                 status                    ran.status, and the output
  *     a recording of a tap                  INPUTFLINGER_OK           0: the streams text is in out, err_len is 0
  *     a recording whose line 3 is bad       INPUTFLINGER_OK           3: "recording: BadLine 3\n" is in err, out_len is 0
- *     --events 3, of two files              INPUTFLINGER_OK           4: "read failed\n"
+ *     --events 3, of two files              INPUTFLINGER_OK           4: "recording: ReadFailed\n"
+ *     --event 2                             INPUTFLINGER_OK           2: "words: UnknownOption --event\n"
+ *     replay --help                         INPUTFLINGER_OK           0: the help of replay is in out
  *     a text longer than out                INPUTFLINGER_NO_ROOM      0: out_len is how much room it needs
  *
- * Words that are not UTF-8 are no command, and neither is an empty text: ran.status is 2. The thread should have 64 KiB
+ * A word that is not UTF-8 counts as the empty word, and an empty text has no words: ran.status is 2. The thread should have 64 KiB
  * of stack left for a run, more than any was seen to take: see docs/LIBRARY.md.
  *
  * The text goes to out and the line to err, each as far as there is room, without a NUL behind it; the rest of the buffer

@@ -195,7 +195,7 @@ class Live:
         done(native.call("live_finish", byref(self._handle), u64(now_us), byref(client.plain()), u64(seq)))
 
     def due(self) -> Optional[int]:
-        """The first time at which something is due."""
+        """The first time at which something is due. While input waits for memory, it is the clock."""
         time = ctypes.c_uint64()
         return time.value if found(native.call("live_due", byref(self._handle), byref(time))) else None
 

@@ -50,7 +50,7 @@ def run(command: Union[str, Sequence[str]], files: Mapping[str, Union[bytes, str
     >>> run("verify --stream tap", {"tap": stream}).out
     'well formed 1 2\\n'
     >>> run("verify --stream tap", {}).status, run("verify --stream tap", {}).err
-    (4, 'read failed\\n')
+    (4, 'stream: ReadFailed\\n')
 
     ``command`` is a list of words, or a text with blanks between them. Commands are those of docs/COMMANDS.md but ``race``.
     """

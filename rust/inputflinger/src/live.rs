@@ -457,7 +457,8 @@ impl Live {
     ///
     /// # Errors
     ///
-    /// `NotOpen` and `OutOfRange`; `NoMemory`: it is still open then, but may have lost its window and its requests.
+    /// `NotOpen` and `OutOfRange`; `NoMemory`: it is still open then, but may have lost its window, its
+    /// requests and messages.
     pub fn close(&mut self, now_us: u64, client: Client) -> Result<(), LiveError> {
         // SAFETY: as above.
         done(unsafe { sys::inputflinger_live_close(&mut self.handle, now_us, &client.plain) })
@@ -585,7 +586,8 @@ impl Live {
         done(unsafe { sys::inputflinger_live_finish(&mut self.handle, now_us, &client.plain, seq) })
     }
 
-    /// The first moment at which something is due: a client that is late, or the repeat of a key that is held.
+    /// The first moment at which something is due: a client that is late, or the repeat of a key that is held. While
+    /// input waits for memory, it is the clock.
     pub fn due(&self) -> Option<u64> {
         let mut moment_us = 0;
         // SAFETY: as above.

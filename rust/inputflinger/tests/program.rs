@@ -15,7 +15,7 @@ fn a_stream_is_judged() -> Result<(), RunError> {
     let ran = run(&["verify", "--stream", "2"], &[STREAM])?;
     assert_eq!(
         (ran.status, &ran.out[..], &ran.err[..]),
-        (4, &b""[..], &b"read failed\n"[..])
+        (4, &b""[..], &b"stream: ReadFailed\n"[..])
     );
     assert_eq!(run(&[], &[])?.status, 2);
     Ok(())

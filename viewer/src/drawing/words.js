@@ -94,21 +94,25 @@ function reasonOf({ row, device, touched, chosen, held, touchedHeld }) {
 }
 
 /** What came of the choice. */
-function resultOf({ device, chosen, given, mute, pilfering }) {
+function resultOf({ device, chosen, given, mute, pilfering, blocked }) {
   const c = nameOf(chosen);
+  const block = blocked.find(({ channel }) => channel === chosen);
   return chosen === null ? words`so no window was chosen`
     : given.includes(chosen) ? words`so ${c} got it`
     : mute.includes(chosen) ? words`so it was for ${c}, which does not respond and got nothing`
+    : block ? words`so it was for ${c}, which is blocked by ${namesOf(block.by)} and got nothing`
     : words`so it was for ${c}, but ${namesOf(pilfering)} took device ${device} for itself`;
 }
 
 /** Who else got the finger, or was sent a touch outside. */
-function besides({ chosen, given, mute, pilfering, outside }) {
+function besides({ chosen, given, mute, pilfering, outside, blocked }) {
   const others = given.filter((channel) => channel !== chosen);
   const silent = mute.filter((channel) => channel !== chosen);
+  const hidden = blocked.filter(({ channel }) => channel !== chosen);
   return [
     others.length === 0 ? [] : pilfering.length > 0 ? words`; ${namesOf(others)} alone got it` : words`; ${namesOf(others)} got it too, as a spy`,
     silent.length === 0 ? [] : words`; ${namesOf(silent)} does not respond and got nothing`,
+    ...hidden.map(({ channel, by }) => words`; ${nameOf(channel)} is blocked by ${namesOf(by)} and got nothing`),
     given.length > 0 ? [] : words`; nobody got it`,
     outside.length === 0 ? [] : words`; ${namesOf(outside)} was sent a touch outside`,
   ];

@@ -3,17 +3,37 @@
 /** A point is each message but a move that is not canceled. */
 function isPoint({ action, canceled }) { return action !== "MOVE" || canceled === true; }
 
-/** Whether two points say the same, their times and places left aside. */
-function saysSame(a, b) {
-  const said = ({ kind, device, action, index, canceled, scan, code, meta, way, repeat, gained, pointers }) =>
-    JSON.stringify([kind, device, action, index, canceled, scan, code, meta, way, repeat, gained, (pointers || []).map(({ id }) => id)]);
-  return said(a) === said(b);
+/** What two points of a kind say, each thing by the word with which compare names it where it differs. */
+const SAYS = {
+  motion: { device: ({ device }) => device, action: ({ action }) => action, index: ({ index }) => index, flags: ({ canceled }) => canceled === true, pointers: ({ pointers }) => pointers.map(({ id }) => id) },
+  key: { device: ({ device }) => device, scan: ({ scan }) => scan, code: ({ code }) => code, meta: ({ meta }) => meta, direction: ({ way }) => way.split(" ")[0], flags: ({ way }) => way === "UP canceled", repeat: ({ repeat }) => repeat },
+  focus: { focus: ({ gained }) => gained },
+};
+
+/** What the places of two motions differ in: those of the first finger, in order of ids, that is too far off on an axis. */
+function placeApart(a, b, pixels) {
+  const far = (a.pointers || []).findIndex(({ x, y }, k) => Math.abs(x - b.pointers[k].x) > pixels || Math.abs(y - b.pointers[k].y) > pixels);
+  return far < 0 ? null : `place ${b.pointers[far].x - a.pointers[far].x},${b.pointers[far].y - a.pointers[far].y}`;
 }
 
-function agree(a, b, us, pixels) {
-  const apart = a.moment < b.moment ? b.moment - a.moment : a.moment - b.moment;
-  const isNear = (one, k) => Math.abs(one.x - b.pointers[k].x) <= pixels && Math.abs(one.y - b.pointers[k].y) <= pixels;
-  return saysSame(a, b) && apart <= BigInt(us) && (!a.pointers || a.pointers.every(isNear));
+/** In what a point that came differs from one that was wanted, the first that holds, as compare's line says it; null where they agree. */
+function differenceOf(a, b, us, pixels) {
+  if (a.kind !== b.kind) { return "kind"; }
+  const word = Object.entries(SAYS[a.kind]).find(([, said]) => JSON.stringify([said(a)]) !== JSON.stringify([said(b)]));
+  if (word) { return word[0]; }
+  const place = placeApart(a, b, pixels);
+  const late = b.moment - a.moment;
+  return place || ((late < 0n ? -late : late) > BigInt(us) ? `time ${late}` : null);
+}
+
+function agree(a, b, us, pixels) { return differenceOf(a, b, us, pixels) === null; }
+
+/** The greater of a distance in time and in place so far and those of two points that agree. */
+function measured({ us, pixels }, a, b) {
+  const late = b.moment - a.moment;
+  const off = (a.pointers || []).flatMap(({ x, y }, k) => [Math.abs(b.pointers[k].x - x), Math.abs(b.pointers[k].y - y)]);
+  const apart = late < 0n ? -late : late;
+  return { us: apart > us ? apart : us, pixels: Math.max(pixels, ...off) };
 }
 
 /** The sections of both streams by channel, the first of a channel with the first, the second with the second: [wanted, got], either may be missing. */
@@ -35,18 +55,23 @@ function pointPairs(wanted, got) {
 /** What `compare` says of two streams, as its line says it, with the place of the first fault: sections, and a message of either. */
 function compareStreams(wanted, got, us, pixels) {
   let points = 0;
+  let most = { us: 0n, pixels: 0 };
   const sections = pairedSections(wanted, got);
   for (const [a, b] of sections) {
     if (!a) { return { verdict: `compare: NewSection ${b.line}`, a, b, wantedAt: null, gotAt: null }; }
     if (!b) { return { verdict: `compare: NoSection ${a.line}`, a, b, wantedAt: null, gotAt: null }; }
     const { pairs, missing, added } = pointPairs(a, b);
     const wrong = pairs.find(([one, other]) => !agree(one.message, other.message, us, pixels));
-    if (wrong) { return { verdict: `compare: Differs ${wrong[0].message.line} ${wrong[1].message.line}`, a, b, wantedAt: wrong[0].at, gotAt: wrong[1].at }; }
+    if (wrong) {
+      const [one, other] = wrong.map(({ message }) => message);
+      return { verdict: `compare: Differs ${one.line} ${other.line} ${differenceOf(one, other, us, pixels)}`, a, b, wantedAt: wrong[0].at, gotAt: wrong[1].at };
+    }
     if (missing) { return { verdict: `compare: Missing ${missing.message.line}`, a, b, wantedAt: missing.at, gotAt: null }; }
     if (added) { return { verdict: `compare: Added ${added.message.line}`, a, b, wantedAt: null, gotAt: added.at }; }
     points += pairs.length;
+    most = pairs.reduce((far, [one, other]) => measured(far, one.message, other.message), most);
   }
-  return { verdict: `same ${sections.length} ${points}`, a: null, b: null, wantedAt: null, gotAt: null };
+  return { verdict: `same ${sections.length} ${points} us ${most.us} pixels ${most.pixels}`, a: null, b: null, wantedAt: null, gotAt: null };
 }
 
 /** Gives each lane the section that came in its place: its rows, laid to those of the lane, and the pairs of points of both. */

@@ -30,6 +30,7 @@ const KINDS = {
   s: [SET, toSet],
   lost: [`(?:-|${LOST}(?: ${LOST})*)`, toLost],
   row: ["(?:first|unsplit|nothing|whole|split)", String],
+  blocked: [`(?: blocked ${NUMBER} by ${SET})*`, toBlocked],
   refused: ["(?:Gone|NotSpy|NothingHeld)", String],
   frames: [`(?: ${NUMBER}@${NUMBER}:${PLACE},${PLACE},${PLACE},${PLACE})*`, toFrames],
 };
@@ -67,6 +68,12 @@ function toPointers(text) {
 function toSet(text) {
   const numbers = text === "-" ? [] : text.split(",").map(Number);
   return numbers.every((number, k) => k === 0 || numbers[k - 1] < number) ? numbers : undefined;
+}
+
+/** Windows that are blocked, in rising order, each with those that block it. */
+function toBlocked(text) {
+  const blocked = [...text.matchAll(/ blocked ([0-9]+) by (-|[0-9,]+)/g)].map(([, channel, by]) => ({ channel: Number(channel), by: toSet(by) }));
+  return blocked.every(({ channel, by }, k) => by && by.length > 0 && (k === 0 || blocked[k - 1].channel < channel)) ? blocked : undefined;
 }
 
 /** What a window lost: ids of devices, and keys. */
