@@ -1,8 +1,8 @@
 -- The lines of a file are numbered one after another.
 use Rattle.std.proofs.Common.{◌≡◌, ℕ, ◌+◌, Bool, true, false, if◌then◌else◌, List, [], ◌∷◌, Option, Some, None, Result, Ok, Err, refl}
 use Rattle.stream_text.specs.declared.stream_line.StreamLine.{StreamLine}
-use Rattle.stream_text.specs.declared.stream_lines.Place.{Place}
-use Rattle.stream_text.specs.declared.stream_lines.Place.TheVariants.{Between}
+use Rattle.stream_text.specs.declared.reading.stream_lines.Place.{Place}
+use Rattle.stream_text.specs.declared.reading.stream_lines.Place.TheVariants.{Between}
 use Rattle.stream_text.specs.OrderText.{order_passed}
 use Rattle.stream_text.specs.StreamFile.{Event, events_behind, events_from, events_of, may_end, numbered_line, told, with_event}
 use Rattle.text_lines.specs.Lines.{Line, lines_of}

@@ -68,6 +68,16 @@ canceled_move : said (stream 7 2 tap ∷ []) (stream 7 2 (motion 2000 Down 0 110
     ≡ Err (Differs 3 3 by.Action)
 canceled_move = refl
 
+-- one whose flags are marks alone is none, and one that is canceled beside a mark is one
+marked_move : said (stream 7 2 tap ∷ []) (stream 7 2 (motion 2000 Down 0 110 200 ∷ motion 3000 Move 3 110 200 ∷ motion 5000 Up 0 112 200 ∷ []) ∷ [])
+    ≡ Ok (codes "same 1 2 us 0 pixels 0\n")
+unfolding same_line digits
+marked_move = refl
+
+marked_canceled_move : said (stream 7 2 tap ∷ []) (stream 7 2 (motion 2000 Down 0 110 200 ∷ motion 3000 Move 34 110 200 ∷ motion 5000 Up 0 112 200 ∷ []) ∷ [])
+    ≡ Err (Differs 3 3 by.Action)
+marked_canceled_move = refl
+
 ended_early : said (stream 7 2 tap ∷ []) (stream 7 2 (motion 2000 Down 0 110 200 ∷ []) ∷ []) ≡ Err (Missing 3)
 ended_early = refl
 
@@ -177,6 +187,9 @@ another_index = refl
 
 other_flags : apart second_down (two 1 PointerDown 1 32 []) ≡ Some by.Flags
 other_flags = refl
+
+other_marks : apart (two 1 PointerDown 1 1 fingers) (two 1 PointerDown 1 2 fingers) ≡ Some by.Flags
+other_marks = refl
 
 other_pointers : apart second_down (two 1 PointerDown 1 0 (pointer 0 (pos 90) (pos 20) ∷ pointer 5 (pos 30) (pos 40) ∷ [])) ≡ Some by.Pointers
 other_pointers = refl

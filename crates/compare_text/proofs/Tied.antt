@@ -9,8 +9,8 @@ use Rattle.stream_judge.specs.Placed.{ArePlaced, Places}
 use Rattle.stream_judge.proofs.Placed.{placed_of}
 use Rattle.stream_text.specs.declared.stream_line.StreamLine.{StreamLine}
 use Rattle.stream_text.specs.declared.stream_line.StreamLine.TheVariants.{Channel, Message, End, Anr}
-use Rattle.stream_text.specs.declared.stream_lines.Place.{Place}
-use Rattle.stream_text.specs.declared.stream_lines.Place.TheVariants.{Between, Section as Inside, Anrs}
+use Rattle.stream_text.specs.declared.reading.stream_lines.Place.{Place}
+use Rattle.stream_text.specs.declared.reading.stream_lines.Place.TheVariants.{Between, Section as Inside, Anrs}
 use Rattle.stream_text.specs.StreamLine.{CanSay}
 use Rattle.stream_text.specs.StreamAnswer.{channel_sent}
 use Rattle.stream_text.specs.StreamFile.{Event, Goes, Unread, events_of, follow, messages_of, streams_of, with_event}

@@ -52,7 +52,7 @@ SymmetricLaw = (c : Comparison) (want got : List Section) → fault_of c want go
 abbrev pub within : Tolerance → Comparison → Comparison
 within t c = record { tolerance = t; want_channel = c.want_channel; got_channel = c.got_channel; each_move = c.each_move }
 
--- What agrees within less agrees within more, and is told by the same line.
+-- Texts that agree within a tolerance agree within every wider one, with the same answer.
 abbrev pub MonotoneLaw : Type 0
 MonotoneLaw =
     (c : Comparison) (more : Tolerance) (want got : List Section) (text : List ℕ) → c.tolerance.us ≤ more.us → c.tolerance.pixels ≤ more.pixels

@@ -6,7 +6,7 @@ use Rattle.input_types.specs.declared.message.Body.TheVariants.{Motion as Motion
 use Rattle.input_types.specs.declared.message.Message.{Message}
 use Rattle.input_types.specs.declared.motion.MotionAction.{MotionAction}
 use Rattle.input_types.specs.declared.motion.MotionAction.TheVariants.{Down, Up, Move, Cancel, Outside, PointerDown, PointerUp}
-use Rattle.input_types.specs.Gestures.{flag_canceled}
+use Rattle.input_types.specs.Gestures.{flag_canceled, unmarked}
 use Rattle.stream_text.specs.StreamFile.{Stream}
 
 -- the action of a move
@@ -21,7 +21,7 @@ is_move PointerUp = false
 
 -- a message is a point if each move is one, and otherwise unless it is a move that is not canceled
 abbrev pub is_point : (each_move : Bool) → Body → Bool
-is_point each_move (MotionBody m) = each_move || not (is_move m.action && not (nat_eq m.flags flag_canceled))
+is_point each_move (MotionBody m) = each_move || not (is_move m.action && not (nat_eq (unmarked m.flags) flag_canceled))
 is_point each_move (Key m) = true
 is_point each_move (Focus b) = true
 

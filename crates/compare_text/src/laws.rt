@@ -22,7 +22,7 @@ pub fn symmetric()
     ensures { SymmetricLaw }
 {}
 
-/// What agrees within less agrees within more, and is told by the same line.
+/// Texts that agree within a tolerance agree within every wider one, with the same answer.
 pub fn monotone()
     ensures { MonotoneLaw }
 {}

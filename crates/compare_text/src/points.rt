@@ -13,7 +13,7 @@ fn is_point(each_move: bool, body: &Body) -> bool
     match body {
         Body::Motion(motion) => {
             let is_move = matches!(motion.action, MotionAction::Move);
-            each_move || !(is_move && motion.flags != FLAG_CANCELED)
+            each_move || !(is_move && motion.unmarked() != FLAG_CANCELED)
         }
         Body::Key(_) | Body::Focus(_) => true,
     }

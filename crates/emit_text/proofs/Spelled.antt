@@ -12,8 +12,8 @@ use Rattle.input_types.specs.declared.motion.MotionAction.TheVariants.{Down, Up,
 use Rattle.input_types.specs.declared.pointer.Pointer.{Pointer}
 use Rattle.stream_text.specs.declared.stream_line.StreamLine.{StreamLine}
 use Rattle.stream_text.specs.declared.stream_line.StreamLine.TheVariants.{Channel, Message, End, Anr}
-use Rattle.stream_text.specs.declared.stream_lines.Place.{Place}
-use Rattle.stream_text.specs.declared.stream_lines.Place.TheVariants.{Between}
+use Rattle.stream_text.specs.declared.reading.stream_lines.Place.{Place}
+use Rattle.stream_text.specs.declared.reading.stream_lines.Place.TheVariants.{Between}
 use Rattle.stream_text.specs.MessageLine.{HasSpelling, HavePlaces, SpelledBody}
 use Rattle.stream_text.specs.Number.{◌>>=◌, IsI32}
 use Rattle.stream_text.specs.OrderText.{order_passed}

@@ -34,6 +34,19 @@ canceled_move = refl
 pub canceled_pointer_up : why (0 ∷ 2 ∷ []) PointerUp 1 32 two_fingers ≡ None
 canceled_pointer_up = refl
 
+-- 1 and 2 are the marks: any motion but an Outside may have them
+pub marked_move : why (0 ∷ []) Move 0 3 (finger 0 ∷ []) ≡ None
+marked_move = refl
+
+pub marked_canceled_move : why (0 ∷ []) Move 0 34 (finger 0 ∷ []) ≡ Some Flags
+marked_canceled_move = refl
+
+pub marked_canceled_pointer_up : why (0 ∷ 2 ∷ []) PointerUp 1 33 two_fingers ≡ None
+marked_canceled_pointer_up = refl
+
+pub marked_outside : why (0 ∷ []) Outside 0 2 (finger 0 ∷ []) ≡ Some Flags
+marked_outside = refl
+
 pub down_twice : why (0 ∷ []) Down 0 0 (finger 0 ∷ []) ≡ Some AlreadyDown
 down_twice = refl
 

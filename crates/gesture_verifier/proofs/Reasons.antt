@@ -11,7 +11,7 @@ use Rattle.input_types.specs.declared.motion.MotionAction.{MotionAction}
 use Rattle.input_types.specs.declared.motion.MotionAction.TheVariants.{Down, Up, Move, Cancel, Outside, PointerDown, PointerUp}
 use Rattle.input_types.specs.declared.pointer.Pointer.{Pointer}
 use Rattle.input_types.specs.Pointers.{IsRising}
-use Rattle.input_types.specs.Gestures.{ids_of, same_ids, allowed, is_end_flag, after_action, after_motion}
+use Rattle.input_types.specs.Gestures.{ids_of, same_ids, allowed, is_end_flag, judged_flags, unmarked, after_action, after_sent}
 use Rattle.bits32.specs.Set.{is_in, members_below}
 use Rattle.input_types.specs.declared.message.Body.TheVariants.{Motion as MotionBody}
 use Rattle.input_types.specs.StreamRule.{StreamState, with_ids, after_body}
@@ -143,64 +143,76 @@ four false b c d r s t u = three b c d s t u
 
 -- an action of a motion that a stream file can express has a reason exactly if it may not come
 by_action : (action : MotionAction) (down : List ℕ) (ps : List Pointer) (index flags : ℕ) → IsRising ps → 0 < length (ids_of ps)
-    → is_end_flag flags ≡ true → nat_eq flags 0 ≡ not (nat_eq flags 32)
+    → (is_pointer_up action ≡ true → is_end_flag flags ≡ true) → nat_eq flags 0 ≡ not (not (nat_eq flags 0))
     → (if is_of_one action then nat_lt index (length (ids_of ps)) else nat_eq index 0) ≡ true
-    → is_some (first_fitting ((not (is_pointer_up action) && nat_eq flags 32, Flags) ∷ action_reasons action down (ids_of ps) index))
+    → is_some (first_fitting ((not (is_pointer_up action) && not (nat_eq flags 0), Flags) ∷ action_reasons action down (ids_of ps) index))
     ≡ not (is_some (after_action action down (ids_of ps) index flags))
 by_action Down down ps index flags rising pos end z i =
     let n : ℕ = length down in
     let k : ℕ = length (ids_of ps) in
-    three (nat_eq flags 32) (nat_lt 0 n) (not (nat_eq k 1)) Flags AlreadyDown OnePointer
-    ∙ downs n k (nat_eq flags 32) (nat_eq flags 0) (nat_eq index 0) z i
+    three (not (nat_eq flags 0)) (nat_lt 0 n) (not (nat_eq k 1)) Flags AlreadyDown OnePointer
+    ∙ downs n k (not (nat_eq flags 0)) (nat_eq flags 0) (nat_eq index 0) z i
     ∙ sym (ap not (may (nat_eq n 0 && (nat_eq k 1 && (nat_eq index 0 && nat_eq flags 0))) (ids_of ps)))
 by_action PointerDown down ps index flags rising pos end z i =
     let n : ℕ = length down in
     let d : Bool = is_down_at down (slice_get (ids_of ps) index) in
     let s : Bool = same_ids (remove (ids_of ps) index) down in
-    four (nat_eq flags 32) (nat_eq n 0) d (not s) Flags NothingDown AlreadyDown OtherPointers
-    ∙ adds n d s (nat_eq flags 32) (nat_eq flags 0) (nat_lt index (length (ids_of ps))) z i
+    four (not (nat_eq flags 0)) (nat_eq n 0) d (not s) Flags NothingDown AlreadyDown OtherPointers
+    ∙ adds n d s (not (nat_eq flags 0)) (nat_eq flags 0) (nat_lt index (length (ids_of ps))) z i
     (not_down ps down index (slice_get (ids_of ps) index) s rising refl refl)
     ∙ sym (ap not (may (nat_lt 0 n && (nat_lt index (length (ids_of ps)) && (s && nat_eq flags 0))) (ids_of ps)))
 by_action Move down ps index flags rising pos end z i =
     let n : ℕ = length down in
     let k : ℕ = length (ids_of ps) in
     let s : Bool = same_ids (ids_of ps) down in
-    three (nat_eq flags 32) (nat_eq n 0) (not s) Flags NothingDown OtherPointers
-    ∙ moves n k s (nat_eq flags 32) (nat_eq flags 0) (nat_eq index 0) pos z i (same_number n k s (same_lengths (ids_of ps) down s refl))
+    three (not (nat_eq flags 0)) (nat_eq n 0) (not s) Flags NothingDown OtherPointers
+    ∙ moves n k s (not (nat_eq flags 0)) (nat_eq flags 0) (nat_eq index 0) pos z i (same_number n k s (same_lengths (ids_of ps) down s refl))
     ∙ sym (ap not (may (s && (nat_eq index 0 && nat_eq flags 0)) down))
 by_action PointerUp down ps index flags rising pos end z i =
     let n : ℕ = length down in
     let k : ℕ = length (ids_of ps) in
     let s : Bool = same_ids (ids_of ps) down in
     three (nat_eq n 0) (not s) (nat_eq n 1) NothingDown OtherPointers LastPointer
-    ∙ lifts n k s (is_end_flag flags) (nat_lt index k) pos end i (same_number n k s (same_lengths (ids_of ps) down s refl))
+    ∙ lifts n k s (is_end_flag flags) (nat_lt index k) pos (end refl) i (same_number n k s (same_lengths (ids_of ps) down s refl))
     ∙ sym (ap not (may (s && (nat_lt 1 k && (nat_lt index k && is_end_flag flags))) (remove (ids_of ps) index)))
 by_action Up down ps index flags rising pos end z i =
     let n : ℕ = length down in
     let k : ℕ = length (ids_of ps) in
     let s : Bool = same_ids (ids_of ps) down in
-    four (nat_eq flags 32) (nat_eq n 0) (not s) (nat_lt 1 n) Flags NothingDown OtherPointers MorePointers
-    ∙ ups n k s (nat_eq flags 32) (nat_eq flags 0) (nat_eq index 0) pos z i (same_number n k s (same_lengths (ids_of ps) down s refl))
+    four (not (nat_eq flags 0)) (nat_eq n 0) (not s) (nat_lt 1 n) Flags NothingDown OtherPointers MorePointers
+    ∙ ups n k s (not (nat_eq flags 0)) (nat_eq flags 0) (nat_eq index 0) pos z i (same_number n k s (same_lengths (ids_of ps) down s refl))
     ∙ sym (ap not (may (s && (nat_eq k 1 && (nat_eq index 0 && nat_eq flags 0))) nothing))
 by_action Cancel down ps index flags rising pos end z i =
     let n : ℕ = length down in
     let k : ℕ = length (ids_of ps) in
     let s : Bool = same_ids (ids_of ps) down in
-    three (nat_eq flags 32) (nat_eq n 0) (not s) Flags NothingDown OtherPointers
-    ∙ cancels n k s (nat_eq flags 32) (nat_eq flags 0) (nat_eq index 0) pos z i (same_number n k s (same_lengths (ids_of ps) down s refl))
+    three (not (nat_eq flags 0)) (nat_eq n 0) (not s) Flags NothingDown OtherPointers
+    ∙ cancels n k s (not (nat_eq flags 0)) (nat_eq flags 0) (nat_eq index 0) pos z i (same_number n k s (same_lengths (ids_of ps) down s refl))
     ∙ sym (ap not (may (s && (nat_lt 0 k && (nat_eq index 0 && nat_eq flags 0))) nothing))
 by_action Outside down ps index flags rising pos end z i =
     let k : ℕ = length (ids_of ps) in
-    two (nat_eq flags 32) (not (nat_eq k 1)) Flags OnePointer
-    ∙ outs k (nat_eq flags 32) (nat_eq flags 0) (nat_eq index 0) z i
+    two (not (nat_eq flags 0)) (not (nat_eq k 1)) Flags OnePointer
+    ∙ outs k (not (nat_eq flags 0)) (nat_eq flags 0) (nat_eq index 0) z i
     ∙ sym (ap not (may (nat_eq k 1 && (nat_eq index 0 && nat_eq flags 0)) down))
 
 ids_as_many : (ps : List Pointer) → length (ids_of ps) ≡ length ps
 ids_as_many [] = refl
 ids_as_many (p ∷ ps) = ap suc (ids_as_many ps)
 
-no_flag_or : (flags : ℕ) → is_end_flag flags ≡ true → nat_eq flags 0 ≡ not (nat_eq flags 32)
-no_flag_or flags e = grind (arith, nat_tests)
+not_not : (b : Bool) → b ≡ not (not b)
+not_not true = refl
+not_not false = refl
+
+-- a PointerUp is judged without its marks
+judged_up : (action : MotionAction) (flags : ℕ) → is_end_flag (unmarked flags) ≡ true → is_pointer_up action ≡ true
+    → is_end_flag (judged_flags action flags) ≡ true
+judged_up PointerUp flags end h = end
+judged_up Down flags end h = absurd (cc h)
+judged_up Up flags end h = absurd (cc h)
+judged_up Move flags end h = absurd (cc h)
+judged_up Cancel flags end h = absurd (cc h)
+judged_up Outside flags end h = absurd (cc h)
+judged_up PointerDown flags end h = absurd (cc h)
 
 mapped : {X Y : Type 0} (f : X → Y) (o : Option X) → is_some (option_map f o) ≡ is_some o
 mapped f None = refl
@@ -216,9 +228,10 @@ pub motion_exact : (s : StreamState) (m : Motion) → IsRising m.pointers → is
     → is_some (reason_of s (MotionBody m)) ≡ not (is_some (after_body s (MotionBody m)))
 motion_exact s m rising spelled =
     let k : length (ids_of m.pointers) ≡ length m.pointers = ids_as_many m.pointers in
-    let fits : (nat_lt 0 (length m.pointers) ≡ true) × (is_end_flag m.flags ≡ true)
+    let fits : (nat_lt 0 (length m.pointers) ≡ true) × (is_end_flag (unmarked m.flags) ≡ true)
     × ((if is_of_one m.action then nat_lt m.index (length m.pointers) else nat_eq m.index 0) ≡ true) =
-    parts (nat_lt 0 (length m.pointers)) (is_end_flag m.flags) (if is_of_one m.action then nat_lt m.index (length m.pointers) else nat_eq m.index 0) spelled in
-    by_action m.action (s.ids m.device) m.pointers m.index m.flags rising (rw k (ltb-true 0 (length m.pointers) (fits.0))) (fits.1)
-    (no_flag_or m.flags (fits.1)) (rw k (fits.2))
-    ∙ sym (ap not (mapped (λ ids. record { ids = with_ids s.ids m.device ids; repeats = s.repeats; focus = s.focus }) (after_motion (s.ids m.device) m)))
+    parts (nat_lt 0 (length m.pointers)) (is_end_flag (unmarked m.flags)) (if is_of_one m.action then nat_lt m.index (length m.pointers) else nat_eq m.index 0) spelled in
+    let flags : ℕ = judged_flags m.action m.flags in
+    by_action m.action (s.ids m.device) m.pointers m.index flags rising (rw k (ltb-true 0 (length m.pointers) (fits.0))) (judged_up m.action m.flags (fits.1))
+    (not_not (nat_eq flags 0)) (rw k (fits.2))
+    ∙ sym (ap not (mapped (λ ids. record { ids = with_ids s.ids m.device ids; repeats = s.repeats; focus = s.focus }) (after_sent (s.ids m.device) m)))

@@ -10,7 +10,7 @@ use Rattle.bits32.specs.Set.{members}
 use Rattle.input_types.specs.declared.key.KeyMsg.{KeyMsg}
 use Rattle.input_types.specs.declared.motion.Motion.{Motion}
 use Rattle.input_types.specs.declared.message.Body.TheVariants.{Motion as MotionBody, Key}
-use Rattle.input_types.specs.Gestures.{after_motion}
+use Rattle.input_types.specs.Gestures.{after_sent}
 use Rattle.input_types.specs.StreamRule.{StreamState, unsent, with_ids, with_repeat, after_key, after_body}
 use Rattle.pointers_down.proofs.Sets.{none_listed}
 use Rattle.gesture_verifier.specs.Told.{Told, state_of, is_device, is_of_device, ids_kept, due_at, due_kept, place_of}
@@ -103,12 +103,12 @@ kept_at sets d held h len is =
 
 -- a motion that may come
 pub motion_taken : (old : Told) (m : Motion) (held after : ℕ) → is_device m.device ≡ true → length old.sets ≡ 8
-    → held ≡ get_or old.sets (m.device - 1) held → Some (members after) ≡ after_motion (members held) m
+    → held ≡ get_or old.sets (m.device - 1) held → Some (members after) ≡ after_sent (members held) m
     → after_body (state_of old) (MotionBody m) ≡ Some (state_of (record old { sets = set old.sets (m.device - 1) after }))
 motion_taken old m held after h len is e =
     let Next : List ℕ → StreamState = λ ids. record { ids = with_ids (ids_kept old.sets) m.device ids; repeats = due_kept old.repeats; focus = old.focus } in
     let kept : ids_kept old.sets m.device ≡ members held = kept_at old.sets m.device held h len is in
-    ap (λ ids. option_map Next (after_motion ids m)) kept
+    ap (λ ids. option_map Next (after_sent ids m)) kept
     ∙ ap (option_map Next) (sym e)
     ∙ ap (λ t. Some (record { ids = t; repeats = due_kept old.repeats; focus = old.focus })) (sym (ids_kept_after old.sets m.device after h len))
 

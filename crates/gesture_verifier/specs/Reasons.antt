@@ -8,7 +8,7 @@ use Rattle.input_types.specs.declared.message.Body.TheVariants.{Motion as Motion
 use Rattle.input_types.specs.declared.motion.Motion.{Motion}
 use Rattle.input_types.specs.declared.motion.MotionAction.{MotionAction}
 use Rattle.input_types.specs.declared.motion.MotionAction.TheVariants.{Down, Up, Move, Cancel, Outside, PointerDown, PointerUp}
-use Rattle.input_types.specs.Gestures.{ids_of, same_ids, differ, is_end_flag, flag_canceled}
+use Rattle.input_types.specs.Gestures.{ids_of, same_ids, differ, is_end_flag, judged_flags, unmarked}
 use Rattle.input_types.specs.StreamRule.{StreamState}
 use Rattle.gesture_verifier.specs.declared.reason.Reason.{Reason}
 use Rattle.gesture_verifier.specs.declared.reason.Reason.TheVariants.{Flags, AlreadyDown, OnePointer, NothingDown, OtherPointers, LastPointer, MorePointers, RepeatOfNothing, RepeatOutOfTurn, KeyNotDown, RepeatOnUp, FocusTwice}
@@ -46,10 +46,10 @@ is_pointer_up Cancel = false
 is_pointer_up Outside = false
 is_pointer_up PointerDown = false
 
--- why a motion may not come if `down` is down on its device: only a PointerUp may be canceled
+-- why a motion may not come if `down` is down on its device: only a PointerUp may be canceled, and an Outside has no mark
 abbrev pub motion_reasons : List ℕ → Motion → List (Bool × Reason)
 motion_reasons down m =
-    (not (is_pointer_up m.action) && nat_eq m.flags flag_canceled, Flags) ∷ action_reasons m.action down (ids_of m.pointers) m.index
+    (not (is_pointer_up m.action) && not (nat_eq (judged_flags m.action m.flags) 0), Flags) ∷ action_reasons m.action down (ids_of m.pointers) m.index
 
 -- why a key message may not come, if `due` is the next repeat number of a key that is down
 abbrev pub key_reasons : Option ℕ → KeyMsg → List (Bool × Reason)
@@ -74,11 +74,11 @@ is_of_one Move = false
 is_of_one Cancel = false
 is_of_one Outside = false
 
--- A message that a line of a stream file can express. A motion lists some pointers, is canceled or has no flag, and
--- has the index of one of them if one goes down or up, and otherwise index 0. A key that goes down has no flag, and
+-- A message that a line of a stream file can express. A motion lists some pointers, has no flag but marks or is canceled
+-- beside, and has the index of one of them if one goes down or up, and otherwise index 0. A key that goes down has no flag, and
 -- one that goes up may be canceled.
 abbrev pub is_spelled : Body → Bool
 is_spelled (MotionBody m) =
-    nat_lt 0 (length m.pointers) && (is_end_flag m.flags && (if is_of_one m.action then nat_lt m.index (length m.pointers) else nat_eq m.index 0))
+    nat_lt 0 (length m.pointers) && (is_end_flag (unmarked m.flags) && (if is_of_one m.action then nat_lt m.index (length m.pointers) else nat_eq m.index 0))
 is_spelled (Key m) = if m.key.down then nat_eq m.flags 0 else is_end_flag m.flags
 is_spelled (Focus b) = true

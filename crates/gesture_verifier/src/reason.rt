@@ -6,13 +6,13 @@ ghost use Rattle.gesture_verifier.specs.Reasons.{first_fitting, is_down_at};
 ghost use Rattle.gesture_verifier.specs.Reasons.{action_reasons, motion_reasons, key_reasons};
 
 use bits32::Bits32;
-use input_types::{FLAG_CANCELED, KeyMsg, Motion, MotionAction};
+use input_types::{KeyMsg, Motion, MotionAction};
 use pointers_down::{is_same, listed, without};
 
 /// Why a message may not come after those before it: the first reason of its kind that holds.
 #[derive(Clone, Copy, Debug, PartialEq, Eq)]
 pub enum Reason {
-    /// A canceled motion other than a `PointerUp`.
+    /// A canceled motion other than a `PointerUp`, or an `Outside` with a mark.
     Flags,
     /// A `Down` while pointers are down, or a `PointerDown` of a pointer that is down.
     AlreadyDown,
@@ -67,7 +67,7 @@ pub(crate) fn motion_reason(held: Bits32, motion: &Motion) -> Option<Reason>
 {
     let ids = listed(&motion.pointers);
     let goes_up = matches!(motion.action, MotionAction::PointerUp);
-    if !goes_up && motion.flags == FLAG_CANCELED {
+    if !goes_up && motion.judged_flags() != 0 {
         return Some(Reason::Flags);
     }
     action_reason(held, motion.action, ids, motion.index)

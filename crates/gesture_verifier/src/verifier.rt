@@ -9,7 +9,7 @@ use crate::reason::{Reason, first_fitting, key_reason, motion_reason};
 use crate::repeats::{due, keep, next_repeat, place};
 use bits32::Bits32;
 use input_types::{Body, DeviceId, KeyMsg, Message, Motion};
-use pointers_down::{next_held, nothing};
+use pointers_down::{next_sent, nothing};
 use std::alloc::{AllocError, Global};
 use std::collections::BTreeMap;
 use std::marker::Model;
@@ -142,7 +142,7 @@ impl Verifier {
         ensures { Takes (Ok result) self.old self.new (Body.Motion motion.now) }
     {
         let row = row(motion.device);
-        match next_held(self.down[row], motion) {
+        match next_sent(self.down[row], motion) {
             Some(held) => {
                 self.down[row] = held;
                 true

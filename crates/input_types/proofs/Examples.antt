@@ -8,7 +8,7 @@ use Rattle.input_types.specs.declared.motion.MotionAction.TheVariants.{Down, Up,
 use Rattle.input_types.specs.declared.message.Args.TheVariants.{Motion as MotionArgs, Key as KeyArgs, Reset}
 use Rattle.input_types.specs.declared.message.Body.TheVariants.{Motion as MotionBody, Key as KeyBody, Focus}
 use Rattle.input_types.specs.declared.message.Message.{Message}
-use Rattle.input_types.specs.Gestures.{after_motion}
+use Rattle.input_types.specs.Gestures.{after_motion, after_sent}
 use Rattle.input_types.specs.DeviceRule.{device_state}
 use Rattle.input_types.specs.StreamRule.{is_well_formed}
 use Rattle.input_types.specs.Displays.{device_display}
@@ -81,6 +81,20 @@ well_formed_gesture = refl
 
 pub up_after_cancel : is_well_formed (says (motion Up 0 0 (at 0 ∷ [])) ∷ says (motion Cancel 0 0 (at 0 ∷ [])) ∷ says (motion Down 0 0 (at 0 ∷ [])) ∷ []) ≡ false
 up_after_cancel = refl
+
+-- what a window is sent may have marks, an up beside FLAG_CANCELED; what falls outside of it has none, and neither has
+-- what a device does
+pub marks_on_a_gesture : is_well_formed (says (motion Move 0 1 (at 0 ∷ [])) ∷ says (motion Down 0 3 (at 0 ∷ [])) ∷ []) ≡ true
+marks_on_a_gesture = refl
+
+pub marks_on_a_lost_finger : after_sent (0 ∷ 1 ∷ []) (motion PointerUp 0 34 (at 0 ∷ at 1 ∷ [])) ≡ Some (1 ∷ [])
+marks_on_a_lost_finger = refl
+
+pub no_marks_on_an_outside : is_well_formed (says (motion Outside 0 1 (at 0 ∷ [])) ∷ []) ≡ false
+no_marks_on_an_outside = refl
+
+pub no_marks_on_a_device : option_map (λ s. s.ids) (device_state 1 (MotionArgs (motion Down 0 1 (at 0 ∷ [])) ∷ [])) ≡ None
+no_marks_on_a_device = refl
 
 -- a key message of scan code 30 on device 1
 abbrev key : Bool → ℕ → ℕ → Message

@@ -1,6 +1,7 @@
 -- What a motion may do to the pointers that are down. One table serves for devices and for windows.
-use Rattle.std.specs.Prelude.{ℕ, ◌==◌, ◌&&◌, ◌||◌, not, nat_eq, nat_lt, Bool, true, false, cond, List, [], length, map, remove, Option, Some, None}
+use Rattle.std.specs.Prelude.{ℕ, ◌==◌, ◌&&◌, ◌||◌, not, nat_eq, nat_lt, bit_and, Bool, true, false, cond, List, [], length, map, remove, Option, Some, None}
 use Rattle.std.specs.Cmp.Lexicographic.{pointwise}
+use Rattle.std.specs.Int.{bit_not, w32}
 use Rattle.input_types.specs.declared.pointer.Pointer.{Pointer}
 use Rattle.input_types.specs.declared.motion.Motion.{Motion}
 use Rattle.input_types.specs.declared.motion.MotionAction.{MotionAction}
@@ -31,6 +32,18 @@ is_plain index flags = (index == 0) && (flags == 0)
 abbrev pub flag_canceled : ℕ
 flag_canceled = 32
 
+-- the mark FLAG_WINDOW_IS_OBSCURED of MotionEvent
+abbrev pub flag_obscured : ℕ
+flag_obscured = 1
+
+-- the mark FLAG_WINDOW_IS_PARTIALLY_OBSCURED of MotionEvent
+abbrev pub flag_partly : ℕ
+flag_partly = 2
+
+-- the flags without the marks, which are the two lowest bits
+abbrev pub unmarked : ℕ → ℕ
+unmarked flags = bit_and flags (bit_not w32 3)
+
 -- no flag, or FLAG_CANCELED
 abbrev pub is_end_flag : ℕ → Bool
 is_end_flag flags = (flags == 0) || (flags == flag_canceled)
@@ -58,3 +71,18 @@ after_action Outside down ids index flags = allowed (nat_eq (length ids) 1 && is
 -- the ids of a device that are down after one of its motions
 abbrev pub after_motion : List ℕ → Motion → Option (List ℕ)
 after_motion down m = after_action m.action down (ids_of m.pointers) m.index m.flags
+
+-- the flags that the table judges of a motion that a window is sent: all of an Outside, and of others those without marks
+abbrev pub judged_flags : MotionAction → ℕ → ℕ
+judged_flags Outside flags = flags
+judged_flags Down flags = unmarked flags
+judged_flags PointerDown flags = unmarked flags
+judged_flags Move flags = unmarked flags
+judged_flags PointerUp flags = unmarked flags
+judged_flags Up flags = unmarked flags
+judged_flags Cancel flags = unmarked flags
+
+-- the ids of a device that are down in a window after a motion that it is sent: by the same table, but each motion except
+-- an Outside may have marks
+abbrev pub after_sent : List ℕ → Motion → Option (List ℕ)
+after_sent down m = after_action m.action down (ids_of m.pointers) m.index (judged_flags m.action m.flags)

@@ -5,7 +5,7 @@ use Rattle.input_types.specs.declared.key.KeyMsg.{KeyMsg}
 use Rattle.input_types.specs.declared.message.Body.{Body}
 use Rattle.input_types.specs.declared.message.Body.TheVariants.{Motion as MotionBody, Key, Focus}
 use Rattle.input_types.specs.declared.message.Message.{Message}
-use Rattle.input_types.specs.Gestures.{after_motion, allowed, differ, is_end_flag}
+use Rattle.input_types.specs.Gestures.{after_sent, allowed, differ, is_end_flag}
 
 -- what a window knows from its messages: per device, the ids that are down, in rising order; per device and scan code
 -- the next repeat number of a key that is down; and whether it has the focus
@@ -34,10 +34,10 @@ abbrev pub with_repeat : (ℕ → ℕ → Option ℕ) → ℕ → ℕ → Option
 with_repeat table device scan due d s = if nat_eq d device && nat_eq s scan then due else table d s
 
 -- What a window knows after one more message, or None if it may not come: a motion by the table of motions of its
--- device, a key message by its key, or a focus change.
+-- device, which lets it have marks, a key message by its key, or a focus change.
 abbrev pub after_body : StreamState → Body → Option StreamState
 after_body s (MotionBody m) =
-    option_map (λ ids. record { ids = with_ids s.ids m.device ids; repeats = s.repeats; focus = s.focus }) (after_motion (s.ids m.device) m)
+    option_map (λ ids. record { ids = with_ids s.ids m.device ids; repeats = s.repeats; focus = s.focus }) (after_sent (s.ids m.device) m)
 after_body s (Key m) =
     option_map (λ due. record { ids = s.ids; repeats = with_repeat s.repeats m.key.device m.key.scan due; focus = s.focus })
     (after_key (s.repeats m.key.device m.key.scan) m)

@@ -23,6 +23,6 @@ pub use axis::{Axis, Pixel, Rotation};
 pub use display::Displays;
 pub use key::{KeyArgs, KeyMsg};
 pub use message::{Args, Body, Message};
-pub use motion::{FLAG_CANCELED, Motion, MotionAction};
+pub use motion::{FLAG_CANCELED, FLAG_OBSCURED, FLAG_PARTLY_OBSCURED, Motion, MotionAction};
 pub use number::{DeviceId, DisplayId, Limit, Moment, PointerId};
 pub use pointer::{Pointer, Pointers, PushRefused};

@@ -6,9 +6,9 @@ use Rattle.input_types.specs.declared.message.Body.{Body}
 use Rattle.input_types.specs.declared.message.Body.TheVariants.{Motion, Key}
 use Rattle.input_types.specs.declared.message.Message.{Message}
 use Rattle.input_types.specs.declared.motion.MotionAction.{MotionAction}
-use Rattle.input_types.specs.declared.motion.MotionAction.TheVariants.{Down, Up}
+use Rattle.input_types.specs.declared.motion.MotionAction.TheVariants.{Down, Up, Outside}
 use Rattle.input_types.specs.declared.pointer.Pointer.{Pointer}
-use Rattle.gesture_verifier.specs.declared.reason.Reason.TheVariants.{AlreadyDown, NothingDown}
+use Rattle.gesture_verifier.specs.declared.reason.Reason.TheVariants.{AlreadyDown, Flags, NothingDown}
 use Rattle.stream_text.specs.StreamFile.{Stream}
 use Rattle.judge_text.specs.declared.error.JudgeError.TheVariants.{BadLine, Broken, Nothing, StillDown}
 use Rattle.judge_text.specs.Down.{Down as LeftDown}
@@ -65,6 +65,17 @@ two_breaks = refl
 
 up_of_none : judged_streams (Ok (stream 7 2 (up ∷ []) ∷ [])) ≡ Err (Broken 2 NothingDown)
 up_of_none = refl
+
+-- a motion with marks, 1 and 2, which an Outside may not have
+abbrev marked : ℕ → MotionAction → Message
+marked flags action = told (Motion (record { device = 1; action = action; index = 0; flags = flags; pointers = finger 0 ∷ [] }))
+
+marked_tap : judged_streams (Ok (stream 7 2 (marked 1 Down ∷ marked 3 Up ∷ []) ∷ [])) ≡ Ok (codes "channel 7 whole 2\njudged 1 2\n")
+unfolding whole_line count_line digits
+marked_tap = refl
+
+marked_outside : judged_streams (Ok (stream 7 2 (marked 2 Outside ∷ []) ∷ [])) ≡ Err (Broken 2 Flags)
+marked_outside = refl
 
 no_message : judged_streams (Ok (stream 7 2 [] ∷ [])) ≡ Err Nothing
 no_message = refl

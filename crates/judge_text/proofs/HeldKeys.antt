@@ -7,7 +7,7 @@ use Rattle.input_types.specs.declared.key.KeyMsg.{KeyMsg}
 use Rattle.input_types.specs.declared.message.Body.{Body}
 use Rattle.input_types.specs.declared.message.Body.TheVariants.{Motion, Key, Focus}
 use Rattle.input_types.specs.declared.message.Message.{Message}
-use Rattle.input_types.specs.Gestures.{allowed, after_motion, differ}
+use Rattle.input_types.specs.Gestures.{allowed, after_sent, differ}
 use Rattle.input_types.specs.StreamRule.{StreamState, after_body, after_key, stream_state, unsent, with_ids, with_repeat}
 use Rattle.gesture_verifier.specs.declared.held.HeldKey.{HeldKey}
 use Rattle.gesture_verifier.specs.Held.{are_rising, is_before, is_held}
@@ -211,7 +211,7 @@ focus_step t s d k b may held is h =
 
 due_step : (b : Body) (t s : StreamState) (d k : ℕ) (ks : List HeldKey) → after_body t b ≡ Some s → is_held d k ks ≡ is_some (t.repeats d k)
     → is_held d k (keys_with b ks) ≡ is_some (s.repeats d k)
-due_step (Motion m) t s d k ks is h = motion_step t s d k (with_ids t.ids m.device) (is_held d k ks) (after_motion (t.ids m.device) m) is h
+due_step (Motion m) t s d k ks is h = motion_step t s d k (with_ids t.ids m.device) (is_held d k ks) (after_sent (t.ids m.device) m) is h
 due_step (Key m) t s d k ks is h = key_step t s m d k ks (after_key (t.repeats m.key.device m.key.scan) m) refl is h
 due_step (Focus b) t s d k ks is h = focus_step t s d k b (differ b t.focus) (is_held d k ks) is h
 

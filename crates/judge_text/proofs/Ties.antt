@@ -11,8 +11,8 @@ use Rattle.stream_judge.proofs.Placed.{placed_of}
 use Rattle.stream_judge.proofs.Sections.{or_again}
 use Rattle.stream_text.specs.declared.stream_line.StreamLine.{StreamLine}
 use Rattle.stream_text.specs.declared.stream_line.StreamLine.TheVariants.{Channel, Message, End, Anr}
-use Rattle.stream_text.specs.declared.stream_lines.Place.{Place}
-use Rattle.stream_text.specs.declared.stream_lines.Place.TheVariants.{Between, Section, Anrs}
+use Rattle.stream_text.specs.declared.reading.stream_lines.Place.{Place}
+use Rattle.stream_text.specs.declared.reading.stream_lines.Place.TheVariants.{Between, Section, Anrs}
 use Rattle.stream_text.specs.StreamFile.{Event, Goes, Unread, events_of, follow, messages_of, streams_in, streams_of, with_event}
 use Rattle.judge_text.specs.Broken.{broken_from, first_broken, reason_behind}
 use Rattle.judge_text.specs.Down.{Down, down_after}

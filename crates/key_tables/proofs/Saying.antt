@@ -6,6 +6,8 @@ use Rattle.input_types.specs.declared.key.KeyMsg.{KeyMsg}
 use Rattle.input_types.specs.declared.message.Body.{Body}
 use Rattle.input_types.specs.declared.message.Body.TheVariants.{Motion as MotionBody, Key as KeyBody, Focus as FocusBody}
 use Rattle.input_types.specs.declared.motion.Motion.{Motion}
+use Rattle.routing_rules.specs.Cover.{under_all}
+use Rattle.routing_rules.specs.Marks.{covered}
 use Rattle.routing_rules.specs.Given.{mark}
 use Rattle.routing_rules.specs.Outgoing.{sent_with, devices}
 use Rattle.dispatch_calls.specs.declared.call.Call.{Call}
@@ -14,7 +16,7 @@ use Rattle.dispatch_history.specs.History.{live, origin, snapshot}
 use Rattle.dispatch_history.specs.Queue.{inbound, args_of}
 use Rattle.dispatch_history.specs.Effect.{Effect, past_of}
 use Rattle.dispatch_history.specs.Effects.{said_at}
-use Rattle.dispatch_history.specs.Step.{scene, step_of}
+use Rattle.dispatch_history.specs.Step.{scene, step_of, marks}
 use Rattle.dispatch_history.specs.Focus.{has_focus, focus_sent}
 use Rattle.dispatch_history.specs.Said.{motion_from}
 use Rattle.dispatch_history.proofs.MotionLaws.{live_said}
@@ -64,7 +66,7 @@ said_keys ds call answer es w =
           let s = scene ds es in
           let e = step_of (snapshot (past_of es)) call answer (args_of call answer (inbound (past_of es))) in
           ap key_bodies (live_said ds call answer es w y)
-          ∙ parts (origin (past_of es) w) (flat_map (sent_with s e (mark s e) w) devices) (key_messages call answer es w) (has_focus (past_of es) w)
+          ∙ parts (origin (past_of es) w) (under_all (covered (mark s e ∷ marks es) w) (flat_map (sent_with s e (mark s e) w) devices)) (key_messages call answer es w) (has_focus (past_of es) w)
           (has_focus ((call, answer) ∷ past_of es) w)
           ∙ sym (ap (λ b. cond b (key_messages call answer es w) []) y)
       | inr n ↦ rw n refl

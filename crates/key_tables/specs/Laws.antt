@@ -1,6 +1,6 @@
 -- Proved facts about what is kept of the focus, of keys and of repeats. Each law is the clause of a function of its
 -- own.
-use Rattle.std.specs.Prelude.{◌≡◌, ◌<◌, ℕ, true, false, List, [], ◌++◌, map, Option, Some, None, Bool, ◌&&◌, replicate, slice_set}
+use Rattle.std.specs.Prelude.{◌≡◌, ◌<◌, ℕ, true, false, List, [], ◌∷◌, ◌++◌, map, Option, Some, None, Bool, ◌&&◌, replicate, slice_set}
 use Rattle.window_snapshot.specs.Mask.{mask_has}
 use Rattle.window_snapshot.specs.Named.{is_focusable_on}
 use Rattle.focus_resolver.specs.Resolver.{FocusState, may_by, focus_of, target_of, is_focused}
@@ -12,9 +12,10 @@ use Rattle.dispatch_history.specs.History.{History, live, clock, origin, snapsho
 use Rattle.dispatch_history.specs.Focus.{focus, has_focus, is_target, key_target, focus_sent}
 use Rattle.dispatch_history.specs.Effect.{Effect, past_of}
 use Rattle.dispatch_history.specs.Effects.{step, said_at}
-use Rattle.dispatch_history.specs.Step.{scene, step_of}
+use Rattle.dispatch_history.specs.Step.{scene, step_of, marks}
 use Rattle.dispatch_history.specs.Said.{motions_said}
 use Rattle.routing_rules.specs.Given.{mark}
+use Rattle.routing_rules.specs.Marks.{covered}
 use Rattle.dispatch_history.specs.Delivery.{able}
 use Rattle.dispatch_history.specs.Keys.{keys}
 use Rattle.dispatch_tables.specs.Lawful.{Lawful}
@@ -125,7 +126,7 @@ SaidParts =
     → let moment = scene displays es in
     let this = step_of (snapshot (past_of es)) call answer (args_of call answer (inbound (past_of es))) in
     said_at displays call answer es w
-    ≡ motions_said moment this (mark moment this) (origin (past_of es) w) w
+    ≡ motions_said moment this (mark moment this) (covered (mark moment this ∷ marks es) w) (origin (past_of es) w) w
     ++ map Key (key_messages call answer es w)
     ++ focus_sent (has_focus (past_of es) w) (has_focus (past_of (step displays call answer es)) w)
 

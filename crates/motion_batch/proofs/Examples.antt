@@ -90,6 +90,15 @@ pub two_devices
     ∷ []
 two_devices = refl
 
+-- a move with the mark 2 is an item by itself, and ends what waits
+abbrev pub marked_move : Message
+marked_move = record { seq = 3; moment = 3000; body = Motion (record { device = 1; action = Move; index = 0; flags = 2; pointers = finger 0 ∷ [] }) }
+
+pub a_mark_stands_alone
+    : items (flushed ∷ taken (finger_moves 4 4000) ∷ taken marked_move ∷ taken (finger_moves 2 2000) ∷ [])
+    ≡ batch 1 (sample 2 2000 (0 ∷ []) ∷ []) ∷ One marked_move ∷ batch 1 (sample 4 4000 (0 ∷ []) ∷ []) ∷ []
+a_mark_stands_alone = refl
+
 -- the 256th sample ends its batch; the one before it does not
 pub full_batch
     : added_by (replicate 255 (sample 1 1000 (0 ∷ []))) (finger_moves 256 2000) ≡ batch 1 (replicate 255 (sample 1 1000 (0 ∷ [])) ++ sample 256 2000 (0 ∷ []) ∷ []) ∷ []

@@ -8,7 +8,7 @@ use Rattle.input_types.specs.declared.message.Body.{Body}
 use Rattle.input_types.specs.declared.message.Body.TheVariants.{Motion as MotionBody, Key, Focus}
 use Rattle.input_types.specs.declared.message.Message.{Message}
 use Rattle.input_types.specs.declared.motion.Motion.{Motion}
-use Rattle.input_types.specs.Gestures.{after_motion, allowed, differ}
+use Rattle.input_types.specs.Gestures.{after_sent, allowed, differ}
 use Rattle.input_types.specs.StreamRule.{StreamState, after_body, after_key, is_well_formed, stream_state, unsent, with_ids, with_repeat}
 use Rattle.motion_batch.specs.Rule.{class_of}
 use Rattle.motion_batch.specs.Unbatch.{of_class}
@@ -34,7 +34,7 @@ record Agree (k : ℕ) (s t : StreamState) : Type 0 where
 -- a message of another class changes nothing of it
 other_class : (k : ℕ) (t s : StreamState) (b : Body) → (class_of b == k) ≡ false → after_body t b ≡ Some s → Agree k t s
 other_class k t s (MotionBody m) c e =
-    let told = some_map (λ ids. record { ids = with_ids t.ids m.device ids; repeats = t.repeats; focus = t.focus }) (after_motion (t.ids m.device) m) s e in
+    let told = some_map (λ ids. record { ids = with_ids t.ids m.device ids; repeats = t.repeats; focus = t.focus }) (after_sent (t.ids m.device) m) s e in
     let apart : nat_eq k m.device ≡ false = grind (arith, nat_tests) in
     record {
       ids = ap (λ b. if b then told.0 else t.ids k) (sym apart) ∙ ap (λ (x : StreamState). x.ids k) told.2;
@@ -51,19 +51,19 @@ other_class k t s (Focus had) c e =
     record { ids = ap (λ (x : StreamState). x.ids k) told.1; repeats = λ z. absurd (apart z); focus = λ z. absurd (apart z) }
 
 -- what a window knows after a motion that may come
-after_ids : (u : StreamState) (m : Motion) (ids : List ℕ) → after_motion (u.ids m.device) m ≡ Some ids
+after_ids : (u : StreamState) (m : Motion) (ids : List ℕ) → after_sent (u.ids m.device) m ≡ Some ids
     → after_body u (MotionBody m) ≡ Some (record { ids = with_ids u.ids m.device ids; repeats = u.repeats; focus = u.focus })
 after_ids u m ids e = ap (option_map (λ x. record { ids = with_ids u.ids m.device x; repeats = u.repeats; focus = u.focus })) e
 
 -- a message of the class may come in both, and changes the same
 same_class : (k : ℕ) (u t s : StreamState) (b : Body) → (class_of b == k) ≡ true → Agree k u t → after_body t b ≡ Some s → (v : StreamState) × (after_body u b ≡ Some v) × Agree k v s
 same_class k u t s (MotionBody m) c a e =
-    let told = some_map (λ ids. record { ids = with_ids t.ids m.device ids; repeats = t.repeats; focus = t.focus }) (after_motion (t.ids m.device) m) s e in
+    let told = some_map (λ ids. record { ids = with_ids t.ids m.device ids; repeats = t.repeats; focus = t.focus }) (after_sent (t.ids m.device) m) s e in
     let device : m.device ≡ k = grind (arith, nat_tests) in
     let known : u.ids m.device ≡ t.ids m.device = rw device a.ids in
     let here : nat_eq k m.device ≡ true = grind (arith, nat_tests) in (
       record { ids = with_ids u.ids m.device told.0; repeats = u.repeats; focus = u.focus },
-      after_ids u m told.0 (ap (λ ids. after_motion ids m) known ∙ told.1),
+      after_ids u m told.0 (ap (λ ids. after_sent ids m) known ∙ told.1),
       record {
         ids =
             ap (λ b. if b then told.0 else u.ids k) here

@@ -3,7 +3,7 @@ ghost use Rattle.std.specs.Prelude.{◌≡◌, nat_lt, [], length, remove};
 ghost use Rattle.std.specs.Option.{option_map};
 ghost use Rattle.bits32.specs.Set.{members};
 ghost use Rattle.input_types.specs.Pointers.{IsRising};
-ghost use Rattle.input_types.specs.Gestures.{ids_of, same_ids, allowed, is_end_flag, after_action, after_motion};
+ghost use Rattle.input_types.specs.Gestures.{ids_of, same_ids, allowed, is_end_flag, after_action, after_motion, after_sent};
 
 use bits32::Bits32;
 use input_types::{FLAG_CANCELED, Motion, MotionAction, Pointers};
@@ -18,6 +18,20 @@ pub fn next_held(held: Bits32, motion: &Motion) -> Option<Bits32>
         listed(&motion.pointers),
         motion.index,
         motion.flags,
+    )
+}
+
+/// The ids that are down in a window after a motion that it is sent, where `held` are down; None if it may not come
+/// then. It may have marks, which an `Outside` may not.
+pub fn next_sent(held: Bits32, motion: &Motion) -> Option<Bits32>
+    ensures { option_map members result ≡ after_sent (members held) motion.now }
+{
+    after_listing(
+        held,
+        motion.action,
+        listed(&motion.pointers),
+        motion.index,
+        motion.judged_flags(),
     )
 }
 

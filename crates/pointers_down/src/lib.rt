@@ -10,9 +10,10 @@
 //! {1}     MOVE 0                      None: it has to list what is down
 //! ```
 //!
-//! [`next_held`] is this table: the ids after a motion, or None exactly if the motion may not come.
+//! [`next_held`] is this table: the ids after a motion, or None exactly if the motion may not come. [`next_sent`] is
+//! the same for what a window is sent, which may have marks.
 #![tactic(auto)]
 
 mod held;
 
-pub use held::{ends, is_same, listed, next_held, nothing, without};
+pub use held::{ends, is_same, listed, next_held, next_sent, nothing, without};

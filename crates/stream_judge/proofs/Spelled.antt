@@ -10,14 +10,14 @@ use Rattle.input_types.specs.declared.motion.Motion.{Motion}
 use Rattle.input_types.specs.declared.motion.MotionAction.{MotionAction}
 use Rattle.input_types.specs.declared.motion.MotionAction.TheVariants.{Down, Up, Move, Cancel, Outside, PointerDown, PointerUp}
 use Rattle.input_types.specs.declared.pointer.Pointer.{Pointer}
-use Rattle.input_types.specs.Gestures.{allowed, differ, is_end_flag}
+use Rattle.input_types.specs.Gestures.{allowed, differ, is_end_flag, unmarked}
 use Rattle.input_types.specs.Pointers.{IsRising}
 use Rattle.input_types.specs.StreamRule.{StreamState, after_body, after_key, with_repeat}
 use Rattle.gesture_verifier.specs.declared.reason.Reason.{Reason}
 use Rattle.gesture_verifier.specs.declared.reason.Reason.TheVariants.{RepeatOfNothing, RepeatOutOfTurn, KeyNotDown, RepeatOnUp, FocusTwice}
 use Rattle.gesture_verifier.specs.Reasons.{first_fitting, is_of_one, is_spelled, reason_of}
 use Rattle.gesture_verifier.proofs.Reasons.{motion_exact}
-use Rattle.stream_text.specs.MessageLine.{HasFlag, HasIndex, HasKeyFlag, HavePlaces, SpelledBody, SpelledKey, SpelledMotion}
+use Rattle.stream_text.specs.MessageLine.{flags_of, HasFlag, HasFlags, HasIndex, HasKeyFlag, HavePlaces, SpelledBody, SpelledKey, SpelledMotion}
 
 -- ---- ids that rise
 
@@ -27,6 +27,19 @@ rising least (p ∷ []) h = tt
 rising least (p ∷ q ∷ ps) h = (omega (arith, h.4.0), rising (p.id + 1) (q ∷ ps) (h.4))
 
 -- ---- what has a spelling is spelled
+
+end_flags : (flags : ℕ) → HasFlags flags → is_end_flag (unmarked flags) ≡ true
+end_flags flags f = ap (λ n. is_end_flag (unmarked n)) f.3 ∙ by_flags f.0 f.1 f.2
+  where
+    by_flags : (c o p : Bool) → is_end_flag (unmarked (flags_of c o p)) ≡ true
+    by_flags true true true = refl
+    by_flags true true false = refl
+    by_flags true false true = refl
+    by_flags true false false = refl
+    by_flags false true true = refl
+    by_flags false true false = refl
+    by_flags false false true = refl
+    by_flags false false false = refl
 
 end_flag : (flags : ℕ) → HasFlag flags → is_end_flag flags ≡ true
 end_flag flags (inl none) = rw none refl
@@ -52,7 +65,7 @@ index_fits PointerUp index count h = lt-ltb index count h
 
 spelled_motion : (m : Motion) → SpelledMotion m → is_spelled (MotionBody m) ≡ true
 spelled_motion m h =
-    rw (lt-ltb 0 (length m.pointers) (some_pointers m.action m.index (length m.pointers) h.index), end_flag m.flags h.flags, index_fits m.action m.index (length m.pointers) h.index) refl
+    rw (lt-ltb 0 (length m.pointers) (some_pointers m.action m.index (length m.pointers) h.index), end_flags m.flags h.flags, index_fits m.action m.index (length m.pointers) h.index) refl
 
 -- ---- keys and the focus
 

@@ -1,6 +1,6 @@
 -- The places of the lines of a file.
 use Rattle.std.specs.Prelude.{◌≡◌, ℕ, ◌+◌, true, List, [], ◌∷◌, Some, Result, Ok, Err}
-use Rattle.stream_text.specs.declared.stream_lines.Place.{Place}
+use Rattle.stream_text.specs.declared.reading.stream_lines.Place.{Place}
 use Rattle.stream_text.specs.StreamFile.{Event, follow, may_end}
 use Rattle.stream_text.specs.StreamLine.{CanSay}
 

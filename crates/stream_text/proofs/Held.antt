@@ -5,7 +5,7 @@ use Rattle.input_types.specs.declared.pointer.Pointer.{Pointer}
 use Rattle.input_types.specs.declared.motion.Motion.{Motion}
 use Rattle.input_types.specs.declared.motion.MotionAction.TheVariants.{Move}
 use Rattle.stream_text.specs.KeptText.{move_of, Holds, Moves}
-use Rattle.stream_text.specs.Spelling.{head, motion, pointers}
+use Rattle.stream_text.specs.Spelling.{flag_words, head, motion, pointers}
 use Rattle.stream_text.proofs.Places.{stays}
 
 pub still_held : (r e at : ℕ) (new old text : List ℕ) (list : List Pointer) → length new ≡ 1280 → length old ≡ 1280 → r ≤ e → e ≤ at
@@ -31,7 +31,7 @@ six a b c d e rest = simp append_assoc
 
 move_front : (device : ℕ) (list : List Pointer) (rest : List ℕ)
     → codes "motion " ++ decimal device ++ codes " " ++ (codes "MOVE" ++ (pointers list ++ rest)) ≡ motion (move_of device list) ++ rest
-unfolding motion
+unfolding motion flag_words
 move_front device list rest = six (codes "motion ") (decimal device) (codes " ") (codes "MOVE") (pointers list) rest
 
 -- a Move that was put in front of its pointers

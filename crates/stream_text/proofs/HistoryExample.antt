@@ -6,7 +6,7 @@ use Rattle.dispatch_calls.specs.declared.call.Call.{Call}
 use Rattle.dispatch_calls.specs.declared.call.Call.TheVariants.{Open, Windows, Receive, Tick}
 use Rattle.dispatch_history.specs.Legal.{run}
 use Rattle.dispatch_history.proofs.Worked.{window, at, moved, one_display}
-use Rattle.stream_text.specs.Spelling.{labeled, indexed, pointer, motion, key, key_end, numbered, channel_line, end_line, anr_line}
+use Rattle.stream_text.specs.Spelling.{flag_words, labeled, indexed, pointer, motion, key, key_end, numbered, channel_line, end_line, anr_line}
 use Rattle.stream_text.specs.StreamsHistory.{streams_text}
 
 abbrev left_unfinished : List Call
@@ -16,5 +16,5 @@ left_unfinished =
 
 pub unfinished_text : streams_text (codes "main" ∷ []) (run one_display (reverse left_unfinished))
     ≡ codes "channel 1 main\n1 1000000 motion 1 DOWN 0@540,1200\n2 6000000 motion 1 CANCEL 0@540,1200\nend 1 sent 2 received 2 finished 0\nanr 6000000 1 1\n"
-unfolding digits labeled indexed pointer motion key key_end numbered channel_line end_line anr_line
+unfolding digits labeled indexed pointer motion flag_words key key_end numbered channel_line end_line anr_line
 unfinished_text = refl

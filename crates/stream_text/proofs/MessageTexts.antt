@@ -11,9 +11,9 @@ use Rattle.input_types.specs.declared.message.Body.TheVariants.{Motion as Motion
 use Rattle.input_types.specs.declared.message.Message.{Message}
 use Rattle.stream_text.specs.Number.{◌>>=◌, after, number_at, NoDigit}
 use Rattle.stream_text.specs.Spelling.{body, canceled, key, key_end, labeled, numbered}
-use Rattle.stream_text.specs.MessageLine.{body_of, codes_at, device_at, flags_at, focus_of, key_of, labeled_at, message_of, message_words, motion_of, way_at, way_by, HasKeyFlag, HasSpelling, SpelledBody, SpelledKey}
+use Rattle.stream_text.specs.MessageLine.{body_of, codes_at, device_at, canceled_at, focus_of, key_of, labeled_at, message_of, message_words, motion_of, way_at, way_by, HasKeyFlag, HasSpelling, SpelledBody, SpelledKey}
 use Rattle.stream_text.proofs.Numbers.{after_only, bind_some, number_again, number_only}
-use Rattle.stream_text.proofs.PartTexts.{labeled_again, labeled_only, device_again, device_only, flags_again, flags_only, by_word, whole_only, labeled_front, regroup}
+use Rattle.stream_text.proofs.PartTexts.{labeled_again, labeled_only, device_again, device_only, canceled_again, canceled_only, by_word, whole_only, labeled_front, regroup}
 use Rattle.stream_text.proofs.MotionTexts.{motion_text, motion_again, motion_only}
 
 pub number_alone : (max n : ℕ) → n ≤ max → max < 2 ^ 64 → number_at max (decimal n) ≡ Some (n, [])
@@ -50,7 +50,7 @@ unfolding way_at
 way_again true flags n h w = ap (λ f. Some (true, f, decimal n)) (sym h)
 way_again false flags n h w =
     let nil = append-nil (decimal n) in
-    let read : flags_at (canceled flags ++ (32 ∷ decimal n)) ≡ (flags, 32 ∷ decimal n) = rw nil at (flags_again flags n [] h w) in
+    let read : canceled_at (canceled flags ++ (32 ∷ decimal n)) ≡ (flags, 32 ∷ decimal n) = rw nil at (canceled_again flags n [] h w) in
     rw read refl
 
 way_from : (o : Option (List ℕ)) (bs : List ℕ) (read : Bool × ℕ × List ℕ) → o ≡ after (codes " DOWN ") bs → way_by o bs ≡ Some read
@@ -60,12 +60,12 @@ way_from (Some rest) bs read e h =
     subst P (same_Some (true, 0, rest) read h) (after_only (codes " DOWN ") bs rest (sym e), refl)
 way_from None bs read e h =
     let (up, found_up, h1) = bind_some (after (codes " UP") bs) _ read h in
-    let (rest, found_space, h2) = bind_some (after (codes " ") (flags_at up).1) _ read h1 in
-    let (split, flag) = flags_only up in
+    let (rest, found_space, h2) = bind_some (after (codes " ") (canceled_at up).1) _ read h1 in
+    let (split, flag) = canceled_only up in
     let P : Bool × ℕ × List ℕ → Type 0 = λ r. (bs ≡ way_words r.0 r.1 r.2) × HasKeyFlag r.0 r.1 in
-    subst P (same_Some (false, (flags_at up).0, rest) read h2) (
+    subst P (same_Some (false, (canceled_at up).0, rest) read h2) (
       after_only (codes " UP") bs up found_up
-          ∙ ap (λ t. codes " UP" ++ t) (split ∙ ap (λ t. canceled (flags_at up).0 ++ t) (after_only (codes " ") (flags_at up).1 rest found_space)),
+          ∙ ap (λ t. codes " UP" ++ t) (split ∙ ap (λ t. canceled (canceled_at up).0 ++ t) (after_only (codes " ") (canceled_at up).1 rest found_space)),
       flag,
     )
 

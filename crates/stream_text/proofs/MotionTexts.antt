@@ -1,5 +1,5 @@
 -- A motion is read again from its text, and only its texts are read as one: its action, its pointers, and the whole.
-use Rattle.std.proofs.Common.{◌≡◌, ℕ, ℤ, zero, suc, ◌+◌, ◌-◌, ◌<◌, ◌≤◌, List, [], ◌∷◌, ◌++◌, length, Option, Some, None, refl, sym, ap, ◌∙◌, subst, arith, inl, inr}
+use Rattle.std.proofs.Common.{◌≡◌, ℕ, ℤ, zero, suc, ◌+◌, ◌-◌, ◌<◌, ◌≤◌, Bool, true, false, List, [], ◌∷◌, ◌++◌, length, Option, Some, None, refl, sym, ap, ◌∙◌, subst, arith, inl, inr}
 use Rattle.std.specs.Prelude.{codes}
 use Rattle.std.specs.Fmt.{decimal, signed_decimal}
 use Rattle.std.proofs.Math.Dec.{leb, ltb}
@@ -11,11 +11,11 @@ use Rattle.input_types.specs.declared.motion.Motion.{Motion}
 use Rattle.input_types.specs.declared.motion.MotionAction.{MotionAction}
 use Rattle.input_types.specs.declared.motion.MotionAction.TheVariants.{Down, Up, Move, Cancel, Outside, PointerDown, PointerUp}
 use Rattle.stream_text.specs.Number.{◌>>=◌, after, number_at, integer_at, IsI32, NoDigit}
-use Rattle.stream_text.specs.Spelling.{action, canceled, indexed, motion, pointer, pointers}
-use Rattle.stream_text.specs.MessageLine.{action_at, device_at, flags_at, indexed_at, labeled_at, motion_of, plain, pointer_at, pointers_at, with_pointer, HasFlag, HasIndex, HavePlaces, SpelledMotion}
+use Rattle.stream_text.specs.Spelling.{action, flag_words, indexed, motion, pointer, pointers}
+use Rattle.stream_text.specs.MessageLine.{action_at, device_at, flags_at, indexed_at, labeled_at, motion_of, plain, pointer_at, pointers_at, with_pointer, HasFlags, HasIndex, HavePlaces, SpelledMotion}
 use Rattle.stream_text.proofs.Numbers.{after_only, bind_some, integer_again, integer_only, number_again, number_only}
 use Rattle.stream_text.proofs.Pointers.{at_end, pointers_step}
-use Rattle.stream_text.proofs.PartTexts.{labeled_again, labeled_only, device_again, device_only, flags_again, flags_only, by_word}
+use Rattle.stream_text.proofs.PartTexts.{labeled_again, labeled_only, device_again, device_only, all_flags_again, all_flags_only, words_of, words_of_flags, by_word}
 
 -- an action
 abbrev PlainIndex : MotionAction → ℕ → Type 0
@@ -151,7 +151,7 @@ pointers_only (suc room) least (b ∷ bs) ps h =
     (split ∙ ap (λ t. pointer p.0.id p.0.at.x p.0.at.y ++ t) rest, omega arith, (place.0, place.1, place.2, place.3, places))
 
 -- a motion
-pub motion_text : (m : Motion) → motion m ≡ codes "motion " ++ (decimal m.device ++ (codes " " ++ (action m.action m.index ++ (canceled m.flags ++ pointers m.pointers))))
+pub motion_text : (m : Motion) → motion m ≡ codes "motion " ++ (decimal m.device ++ (codes " " ++ (action m.action m.index ++ (flag_words m.flags ++ pointers m.pointers))))
 unfolding motion
 motion_text m = simp append_assoc
 
@@ -173,22 +173,28 @@ has_index Move index count l h = (h, omega (arith, l, h))
 has_index Cancel index count l h = (h, omega (arith, l, h))
 has_index Outside index count l h = (h, omega (arith, l, h))
 
-flags_pointers : (flags : ℕ) (ps : List Pointer) → HasFlag flags → 0 < length ps → HavePlaces 0 ps → flags_at (canceled flags ++ pointers ps) ≡ (flags, pointers ps)
+flags_pointers : (flags : ℕ) (ps : List Pointer) → HasFlags flags → 0 < length ps → HavePlaces 0 ps → flags_at (flag_words flags ++ pointers ps) ≡ (flags, pointers ps)
 flags_pointers flags [] f l h = absurd (omega arith)
 flags_pointers flags (p ∷ ps) f l h =
     rw (pointer_text p.id p.at.x p.at.y (pointers ps))
-    (flags_again flags p.id (codes "@" ++ (signed_decimal p.at.x ++ (codes "," ++ (signed_decimal p.at.y ++ pointers ps)))) f (omega (arith, h.1)))
+    (all_flags_again flags p.id (codes "@" ++ (signed_decimal p.at.x ++ (codes "," ++ (signed_decimal p.at.y ++ pointers ps)))) f (omega (arith, h.1)))
 
-flags_no_digit : (flags : ℕ) (ps : List Pointer) → HasFlag flags → NoDigit (canceled flags ++ pointers ps)
-flags_no_digit flags ps (inl e) = let P : ℕ → Type 0 = λ f. NoDigit (canceled f ++ pointers ps) in subst P (sym e) (no_digit ps)
-flags_no_digit flags ps (inr e) = let P : ℕ → Type 0 = λ f. NoDigit (canceled f ++ pointers ps) in subst P (sym e) refl
+flags_no_digit : (flags : ℕ) (ps : List Pointer) → HasFlags flags → NoDigit (flag_words flags ++ pointers ps)
+flags_no_digit flags ps f =
+    subst (λ xs. NoDigit (xs ++ pointers ps)) (sym (words_of_flags flags f)) (by_flags f.0 f.1 f.2)
+  where
+    by_flags : (c o p : Bool) → NoDigit (words_of c o p ++ pointers ps)
+    by_flags true o p = refl
+    by_flags false true p = refl
+    by_flags false false true = refl
+    by_flags false false false = no_digit ps
 
 pub motion_again : (m : Motion) → SpelledMotion m
-    → motion_of (decimal m.device ++ (codes " " ++ (action m.action m.index ++ (canceled m.flags ++ pointers m.pointers)))) ≡ Some m
+    → motion_of (decimal m.device ++ (codes " " ++ (action m.action m.index ++ (flag_words m.flags ++ pointers m.pointers)))) ≡ Some m
 unfolding motion_of
 motion_again m h =
     let (below, plain_index) = index_below m.action m.index (length m.pointers) h.index h.count in
-    rw (device_again m.device (codes " " ++ (action m.action m.index ++ (canceled m.flags ++ pointers m.pointers))) h.device.0 h.device.1 refl, action_again m.action m.index (canceled m.flags ++ pointers m.pointers) plain_index (flags_no_digit m.flags m.pointers h.flags), flags_pointers m.flags m.pointers h.flags (omega (arith, below)) h.places, pointers_again 16 0 m.pointers h.count h.places, lt-ltb m.index (length m.pointers) below) refl
+    rw (device_again m.device (codes " " ++ (action m.action m.index ++ (flag_words m.flags ++ pointers m.pointers))) h.device.0 h.device.1 refl, action_again m.action m.index (flag_words m.flags ++ pointers m.pointers) plain_index (flags_no_digit m.flags m.pointers h.flags), flags_pointers m.flags m.pointers h.flags (omega (arith, below)) h.places, pointers_again 16 0 m.pointers h.count h.places, lt-ltb m.index (length m.pointers) below) refl
 
 pub motion_only : (bs : List ℕ) (m : Motion) → motion_of bs ≡ Some m → (codes "motion " ++ bs ≡ motion m) × SpelledMotion m
 unfolding motion_of
@@ -201,7 +207,7 @@ motion_only bs m h =
     let (below, same) = cond_some (ltb act.1 (length ps)) made m h4 in
     let (split_device, least, most) = device_only bs device found_device in
     let (split_action, plain_index) = action_only to_action act found_action in
-    let (split_flags, flag) = flags_only act.2 in
+    let (split_flags, flag) = all_flags_only act.2 in
     let (split_pointers, count, places) = pointers_only 16 0 (flags_at act.2).1 ps found_pointers in
     let P : Motion → Type 0 = λ x. (codes "motion " ++ bs ≡ motion x) × SpelledMotion x in
     subst P same (
@@ -210,7 +216,7 @@ motion_only bs m h =
           ∙ ap (λ t. decimal device.0 ++ t)
           (after_only (codes " ") device.1 to_action found_space
           ∙ ap (λ t. codes " " ++ t)
-          (split_action ∙ ap (λ t. action act.0 act.1 ++ t) (split_flags ∙ ap (λ t. canceled (flags_at act.2).0 ++ t) split_pointers))))
+          (split_action ∙ ap (λ t. action act.0 act.1 ++ t) (split_flags ∙ ap (λ t. flag_words (flags_at act.2).0 ++ t) split_pointers))))
           ∙ sym (motion_text made),
       record {
         device = (least, most);

@@ -13,9 +13,10 @@ use Rattle.input_types.specs.declared.message.Body.{Body}
 use Rattle.input_types.specs.declared.message.Body.TheVariants.{Motion as MotionBody, Key, Focus}
 use Rattle.input_types.specs.declared.message.Message.{Message}
 use Rattle.stream_text.specs.Number.{IsI32}
-use Rattle.stream_text.specs.Spelling.{action, body, canceled, indexed, key, key_end, labeled, motion, numbered, pointer, pointers}
-use Rattle.stream_text.specs.MessageLine.{message_words, HasFlag, HasIndex, HasKeyFlag, HasSpelling, HavePlaces, SpelledBody, SpelledMotion}
+use Rattle.stream_text.specs.Spelling.{action, body, canceled, flag_words, indexed, key, key_end, labeled, motion, numbered, pointer, pointers, word_if}
+use Rattle.stream_text.specs.MessageLine.{message_words, HasFlag, HasFlags, HasIndex, HasKeyFlag, HasSpelling, HavePlaces, SpelledBody, SpelledMotion}
 use Rattle.stream_text.specs.StreamLine.{channel_words, end_words, is_name, is_name_byte, anr_words, IsId}
+use Rattle.stream_text.proofs.PartTexts.{words_of, words_of_flags}
 use Rattle.stream_text.proofs.OrderTexts.{NoNewline, decimal_no_newline, no_newline_append}
 
 join : (cs bs : List ℕ) → NoNewline cs → NoNewline bs → NoNewline (cs ++ bs)
@@ -37,6 +38,26 @@ flag_ok flags (inl e) = let P : ℕ → Type 0 = λ f. NoNewline (canceled f) in
 flag_ok flags (inr e) =
     let P : ℕ → Type 0 = λ f. NoNewline (canceled f) in
     subst P (sym e) (refl, (refl, (refl, (refl, (refl, (refl, (refl, (refl, (refl, tt)))))))))
+
+flags_ok : (flags : ℕ) → HasFlags flags → NoNewline (flag_words flags)
+flags_ok flags f = subst NoNewline (sym (words_of_flags flags f)) (by_flags f.0 f.1 f.2)
+  where
+    obscured_ok : (o : Bool) → NoNewline (word_if o (codes " obscured"))
+    obscured_ok true = (refl, (refl, (refl, (refl, (refl, (refl, (refl, (refl, (refl, tt)))))))))
+    obscured_ok false = tt
+
+    partly_ok : (p : Bool) → NoNewline (word_if p (codes " partly"))
+    partly_ok true = (refl, (refl, (refl, (refl, (refl, (refl, (refl, tt)))))))
+    partly_ok false = tt
+
+    canceled_ok : (c : Bool) → NoNewline (word_if c (codes " canceled"))
+    canceled_ok true = (refl, (refl, (refl, (refl, (refl, (refl, (refl, (refl, (refl, tt)))))))))
+    canceled_ok false = tt
+
+    by_flags : (c o p : Bool) → NoNewline (words_of c o p)
+    by_flags c o p =
+        join (word_if c (codes " canceled") ++ word_if o (codes " obscured")) (word_if p (codes " partly"))
+        (join (word_if c (codes " canceled")) (word_if o (codes " obscured")) (canceled_ok c) (obscured_ok o)) (partly_ok p)
 
 pointer_ok : (id : ℕ) (x y : ℤ) → id ≤ 31 → IsI32 x → IsI32 y → NoNewline (pointer id x y)
 unfolding pointer
@@ -76,12 +97,12 @@ motion_word = (refl, (refl, (refl, (refl, (refl, (refl, (refl, tt)))))))
 motion_ok : (m : Motion) → SpelledMotion m → NoNewline (motion m)
 unfolding motion
 motion_ok m h =
-    join (codes "motion " ++ decimal m.device ++ codes " " ++ action m.action m.index ++ canceled m.flags) (pointers m.pointers)
-    (join (codes "motion " ++ decimal m.device ++ codes " " ++ action m.action m.index) (canceled m.flags)
+    join (codes "motion " ++ decimal m.device ++ codes " " ++ action m.action m.index ++ flag_words m.flags) (pointers m.pointers)
+    (join (codes "motion " ++ decimal m.device ++ codes " " ++ action m.action m.index) (flag_words m.flags)
     (join (codes "motion " ++ decimal m.device ++ codes " ") (action m.action m.index)
     (join (codes "motion " ++ decimal m.device) (codes " ") (join (codes "motion ") (decimal m.device) motion_word (decimal_no_newline m.device (omega (arith, h.device.1)))) space)
     (action_ok m.action m.index (index_small m.action m.index (length m.pointers) h.index h.count)))
-    (flag_ok m.flags h.flags))
+    (flags_ok m.flags h.flags))
     (pointers_ok 0 m.pointers h.places)
 
 key_ok : (device scan code meta : ℕ) → device < 2 ^ 64 → scan < 2 ^ 64 → code < 2 ^ 64 → meta < 2 ^ 64 → NoNewline (key device scan code meta)

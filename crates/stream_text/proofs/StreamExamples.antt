@@ -6,7 +6,7 @@ use Rattle.input_types.specs.declared.message.Body.TheVariants.{Motion, Focus}
 use Rattle.stream_text.specs.Number.{integer_at, negative_at, number_at, positive_at}
 use Rattle.stream_text.specs.Order.{finish_line, number_alone}
 use Rattle.stream_text.specs.OrderText.{head_of}
-use Rattle.stream_text.specs.MessageLine.{action_at, body_of, codes_at, device_at, flags_at, focus_of, indexed_at, key_of, labeled_at, message_of, motion_of, pointer_at, pointers_at, way_at}
+use Rattle.stream_text.specs.MessageLine.{action_at, body_of, codes_at, device_at, flag_at, flags_at, focus_of, indexed_at, key_of, labeled_at, message_of, motion_of, pointer_at, pointers_at, way_at}
 use Rattle.stream_text.specs.StreamLine.{channel_at, channel_of, end_of, line_of, anr_of}
 use Rattle.stream_text.specs.StreamFile.{Stream, events_of, streams_in}
 
@@ -28,7 +28,7 @@ pub two_downs : streams_in (events_of (codes "channel 1 main\n1 0 motion 1 DOWN 
           ∷ [];
     }
     ∷ [])
-unfolding events_of head_of number_alone line_of channel_of channel_at end_of anr_of message_of body_of motion_of key_of focus_of device_at action_at indexed_at flags_at pointer_at pointers_at labeled_at number_at integer_at negative_at positive_at codes_at way_at
+unfolding events_of head_of number_alone line_of channel_of channel_at end_of anr_of message_of body_of motion_of key_of focus_of device_at action_at indexed_at flag_at flags_at pointer_at pointers_at labeled_at number_at integer_at negative_at positive_at codes_at way_at
 two_downs = refl
 
 -- an order in front, a section without messages twice, and a naming
@@ -53,6 +53,11 @@ pub bad_lines : list_all (λ line. is_none (line_of line))
     ∷ codes "1 0 motion 1 POINTER_DOWN 0@1,1 1@2,2"
     ∷ codes "1 0 motion 1 POINTER_DOWN:2 0@1,1 1@2,2"
     ∷ codes "1 0 motion 1 canceled CANCEL 0@1,1"
+    ∷ codes "1 0 motion 1 MOVE partly obscured 0@1,1"
+    ∷ codes "1 0 motion 1 MOVE obscured canceled 0@1,1"
+    ∷ codes "1 0 motion 1 MOVE partly canceled 0@1,1"
+    ∷ codes "1 0 motion 1 MOVE obscured obscured 0@1,1"
+    ∷ codes "1 0 motion 1 MOVE partly partly 0@1,1"
     ∷ codes "1 0 motion 1 MOVE"
     ∷ codes "1 0 motion 1 MOVE 32@1,1"
     ∷ codes "1 0 motion 1 MOVE 1@1,1 1@2,2"
@@ -67,6 +72,7 @@ pub bad_lines : list_all (λ line. is_none (line_of line))
     ∷ codes "1 0 key 1 0 65536 0 DOWN 0"
     ∷ codes "1 0 key 1 0 0 4294967296 DOWN 0"
     ∷ codes "1 0 key 1 0 0 0 DOWN canceled 0"
+    ∷ codes "1 0 key 1 0 0 0 UP obscured 0"
     ∷ codes "1 0 key 1 0 0 0 MOVE 0"
     ∷ codes "1 0 key 1 0 0 0 UP 4294967296"
     ∷ codes "1 0 reset 1"
@@ -83,7 +89,7 @@ pub bad_lines : list_all (λ line. is_none (line_of line))
     ∷ []
     ∷ [])
     ≡ true
-unfolding line_of channel_of channel_at end_of anr_of message_of body_of motion_of key_of focus_of device_at action_at indexed_at flags_at pointer_at pointers_at labeled_at number_at integer_at negative_at positive_at codes_at way_at
+unfolding line_of channel_of channel_at end_of anr_of message_of body_of motion_of key_of focus_of device_at action_at indexed_at flag_at flags_at pointer_at pointers_at labeled_at number_at integer_at negative_at positive_at codes_at way_at
 bad_lines = refl
 
 -- the number of the first bad line, and 0 for a file that has none
@@ -115,9 +121,39 @@ pub bad_files : map (λ text. bad_line (streams_in (events_of text)))
 unfolding events_of head_of number_alone line_of channel_of channel_at end_of anr_of message_of body_of focus_of labeled_at number_at
 bad_files = refl
 
--- ` canceled` may stand behind each action of a motion, and behind the up of a key
+-- each of these words has its flag, in this order alone: what stands behind the last one that is read is no pointer then
+pub words_have_flags : map flags_at
+    (codes " 0@1,1"
+    ∷ codes " obscured 0@1,1"
+    ∷ codes " partly 0@1,1"
+    ∷ codes " obscured partly 0@1,1"
+    ∷ codes " canceled 0@1,1"
+    ∷ codes " canceled obscured 0@1,1"
+    ∷ codes " canceled partly 0@1,1"
+    ∷ codes " canceled obscured partly 0@1,1"
+    ∷ codes " partly obscured 0@1,1"
+    ∷ codes " obscured canceled 0@1,1"
+    ∷ codes " partly canceled 0@1,1"
+    ∷ [])
+    ≡ (0, codes " 0@1,1")
+    ∷ (1, codes " 0@1,1")
+    ∷ (2, codes " 0@1,1")
+    ∷ (3, codes " 0@1,1")
+    ∷ (32, codes " 0@1,1")
+    ∷ (33, codes " 0@1,1")
+    ∷ (34, codes " 0@1,1")
+    ∷ (35, codes " 0@1,1")
+    ∷ (2, codes " obscured 0@1,1")
+    ∷ (1, codes " canceled 0@1,1")
+    ∷ (2, codes " canceled 0@1,1")
+    ∷ []
+unfolding flag_at flags_at
+words_have_flags = refl
+
+-- ` canceled` may stand behind each action of a motion, and behind the up of a key; behind it a motion may have marks
 pub canceled_anywhere : list_all (λ line. is_some (line_of line))
-    (codes "1 0 motion 1 DOWN canceled 0@1,1" ∷ codes "1 0 motion 1 POINTER_UP:0 canceled 0@1,1 1@2,2" ∷ codes "1 0 key 1 0 0 0 UP canceled 0" ∷ [])
+    (codes "1 0 motion 1 DOWN canceled 0@1,1" ∷ codes "1 0 motion 1 POINTER_UP:0 canceled partly 0@1,1 1@2,2"
+    ∷ codes "1 0 motion 1 OUTSIDE obscured partly 0@1,1" ∷ codes "1 0 key 1 0 0 0 UP canceled 0" ∷ [])
     ≡ true
-unfolding line_of channel_of channel_at end_of anr_of message_of body_of motion_of key_of focus_of device_at action_at indexed_at flags_at pointer_at pointers_at labeled_at number_at integer_at negative_at positive_at codes_at way_at
+unfolding line_of channel_of channel_at end_of anr_of message_of body_of motion_of key_of focus_of device_at action_at indexed_at flag_at flags_at pointer_at pointers_at labeled_at number_at integer_at negative_at positive_at codes_at way_at
 canceled_anywhere = refl

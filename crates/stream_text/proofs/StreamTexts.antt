@@ -9,8 +9,8 @@ use Rattle.input_types.specs.declared.message.Message.{Message as Told}
 use Rattle.stream_text.specs.declared.order_line.OrderLine.{OrderLine}
 use Rattle.stream_text.specs.declared.stream_line.StreamLine.{StreamLine}
 use Rattle.stream_text.specs.declared.stream_line.StreamLine.TheVariants.{Channel, Message, End, Anr as AnrLine}
-use Rattle.stream_text.specs.declared.stream_lines.Place.{Place}
-use Rattle.stream_text.specs.declared.stream_lines.Place.TheVariants.{Between, Section as InSection, Anrs}
+use Rattle.stream_text.specs.declared.reading.stream_lines.Place.{Place}
+use Rattle.stream_text.specs.declared.reading.stream_lines.Place.TheVariants.{Between, Section as InSection, Anrs}
 use Rattle.stream_text.specs.Number.{◌>>=◌}
 use Rattle.stream_text.specs.OrderText.{head_of, order_passed, passed_behind}
 use Rattle.text_lines.specs.Lines.{Line, lines_of}

@@ -1,5 +1,5 @@
 -- What the line of a message says. A line is given without its newline.
-use Rattle.std.specs.Prelude.{codes, ◌≡◌, ℕ, zero, suc, ◌+◌, ◌-◌, ◌^◌, ◌<◌, ◌≤◌, ◌==◌, nat_le, nat_lt, Bool, true, false, ◌⊎◌, if◌then◌else◌, List, [], ◌∷◌, ◌++◌, length, Option, Some, None}
+use Rattle.std.specs.Prelude.{codes, ◌≡◌, ℕ, zero, suc, ◌+◌, ◌-◌, ◌^◌, ◌<◌, ◌≤◌, ◌==◌, nat_le, nat_lt, bit_or, cond, Bool, true, false, ◌⊎◌, if◌then◌else◌, List, [], ◌∷◌, ◌++◌, length, Option, Some, None}
 use Rattle.input_types.specs.declared.pointer.Pointer.{Pointer}
 use Rattle.input_types.specs.declared.motion.Motion.{Motion}
 use Rattle.input_types.specs.declared.motion.MotionAction.{MotionAction}
@@ -8,6 +8,7 @@ use Rattle.input_types.specs.declared.key.KeyMsg.{KeyMsg}
 use Rattle.input_types.specs.declared.message.Body.{Body}
 use Rattle.input_types.specs.declared.message.Body.TheVariants.{Motion as MotionBody, Key, Focus}
 use Rattle.input_types.specs.declared.message.Message.{Message}
+use Rattle.input_types.specs.Gestures.{flag_canceled, flag_obscured, flag_partly}
 use Rattle.stream_text.specs.Number.{◌>>=◌, after, number_at, integer_at, whole, IsI32}
 use Rattle.stream_text.specs.Spelling.{body, numbered}
 
@@ -47,14 +48,26 @@ action_at bs =
     (chosen_by (after (codes "POINTER_DOWN:") bs) (indexed_at PointerDown)
     (chosen_by (after (codes "POINTER_UP:") bs) (indexed_at PointerUp) None))))))
 
--- the flags: FLAG_CANCELED where ` canceled` stands there, and else none
-abbrev pub flags_by : Option (List ℕ) → List ℕ → ℕ × List ℕ
-flags_by (Some rest) bs = (32, rest)
-flags_by None bs = (0, bs)
+-- a flag if its word was there, and else none
+abbrev pub flag_by : ℕ → Option (List ℕ) → List ℕ → ℕ × List ℕ
+flag_by flag (Some rest) bs = (flag, rest)
+flag_by flag None bs = (0, bs)
 
--- the flags of a motion: ` canceled` is FLAG_CANCELED, and nothing is 0
+-- a flag if its word stands there
+unfoldable pub flag_at : List ℕ → ℕ → List ℕ → ℕ × List ℕ
+flag_at word flag bs = flag_by flag (after word bs) bs
+
+-- FLAG_CANCELED if ` canceled` stands there
+abbrev pub canceled_at : List ℕ → ℕ × List ℕ
+canceled_at bs = flag_at (codes " canceled") flag_canceled bs
+
+-- one more flag, behind those that are read
+abbrev pub with_flag : List ℕ → ℕ → ℕ × List ℕ → ℕ × List ℕ
+with_flag word flag read = let r = flag_at word flag read.1 in (bit_or read.0 r.0, r.1)
+
+-- the flags of a motion: ` canceled`, ` obscured` and ` partly` in this order, each if it stands there
 unfoldable pub flags_at : List ℕ → ℕ × List ℕ
-flags_at bs = flags_by (after (codes " canceled") bs) bs
+flags_at bs = with_flag (codes " partly") flag_partly (with_flag (codes " obscured") flag_obscured (canceled_at bs))
 
 -- a pointer behind a space, whose id is not below `least`
 unfoldable pub pointer_at : ℕ → List ℕ → Option (Pointer × List ℕ)
@@ -93,8 +106,8 @@ abbrev pub way_by : Option (List ℕ) → List ℕ → Option (Bool × ℕ × Li
 way_by (Some rest) bs = Some (true, 0, rest)
 way_by None bs = do
   up ← after (codes " UP") bs
-  rest ← after (codes " ") (flags_at up).1
-  Some (false, (flags_at up).0, rest)
+  rest ← after (codes " ") (canceled_at up).1
+  Some (false, (canceled_at up).0, rest)
 
 -- which way a key goes, with its flags: `DOWN` alone, or `UP`, behind which ` canceled` may stand
 unfoldable pub way_at : List ℕ → Option (Bool × ℕ × List ℕ)
@@ -158,11 +171,19 @@ HavePlaces least (p ∷ ps) = (least ≤ p.id) × (p.id ≤ 31) × IsI32 p.at.x 
 abbrev pub HasFlag : ℕ → Type 0
 HasFlag flags = (flags ≡ 0) ⊎ (flags ≡ 32)
 
--- a motion that has a spelling: its numbers are in their ranges, an index stands where the action has one, and its flags are 0 or FLAG_CANCELED
+-- FLAG_CANCELED and the marks, each if it is set
+abbrev pub flags_of : (canceled obscured partly : Bool) → ℕ
+flags_of c o p = bit_or (bit_or (cond c flag_canceled 0) (cond o flag_obscured 0)) (cond p flag_partly 0)
+
+-- no other flags than these
+abbrev pub HasFlags : ℕ → Type 0
+HasFlags flags = (c : Bool) × (o : Bool) × (p : Bool) × (flags ≡ flags_of c o p)
+
+-- a motion that has a spelling: its numbers are in their ranges, an index stands where the action has one, and its flags are FLAG_CANCELED or not, and marks
 pub record SpelledMotion (m : Motion) : Type 0 where
   pub device : (1 ≤ m.device) × (m.device ≤ 8)
   pub index : HasIndex m.action m.index (length m.pointers)
-  pub flags : HasFlag m.flags
+  pub flags : HasFlags m.flags
   pub count : length m.pointers ≤ 16
   pub places : HavePlaces 0 m.pointers
 
@@ -186,7 +207,7 @@ SpelledBody (MotionBody m) = SpelledMotion m
 SpelledBody (Key m) = SpelledKey m
 SpelledBody (Focus b) = Unit {0}
 
--- the messages that have a spelling: no other flag than FLAG_CANCELED, and that not at the down of a key; no index where the action has none; 1 to 16 pointers; and numbers within their types
+-- the messages that have a spelling: no other flag than FLAG_CANCELED, and that not at the down of a key, and the marks of a motion; no index where the action has none; 1 to 16 pointers; and numbers within their types
 pub record HasSpelling (m : Message) : Type 0 where
   pub seq : m.seq < 2 ^ 64
   pub moment : m.moment ≤ 1000000000000000000

@@ -1,10 +1,11 @@
 -- How a message, the section of a channel and a naming are spelled.
-use Rattle.std.specs.Prelude.{codes, ℕ, ℤ, nat_eq, Bool, cond, List, [], ◌∷◌, ◌++◌}
+use Rattle.std.specs.Prelude.{codes, ℕ, ℤ, ◌==◌, nat_eq, bit_and, not, Bool, cond, List, [], ◌∷◌, ◌++◌}
 use Rattle.std.specs.Fmt.{decimal, signed_decimal}
 use Rattle.input_types.specs.declared.pointer.Pointer.{Pointer}
 use Rattle.input_types.specs.declared.motion.Motion.{Motion}
 use Rattle.input_types.specs.declared.motion.MotionAction.{MotionAction}
 use Rattle.input_types.specs.declared.motion.MotionAction.TheVariants.{Down, Up, Move, Cancel, Outside, PointerDown, PointerUp}
+use Rattle.input_types.specs.Gestures.{flag_obscured, flag_partly, unmarked}
 use Rattle.input_types.specs.declared.message.Body.{Body}
 use Rattle.input_types.specs.declared.message.Body.TheVariants.{Motion as MotionBody, Key, Focus}
 use Rattle.input_types.specs.declared.message.Message.{Message}
@@ -15,6 +16,19 @@ unfoldable pub use Rattle.text_lines.specs.Written.{labeled}
 -- ` canceled` where the flags are FLAG_CANCELED
 abbrev pub canceled : ℕ → List ℕ
 canceled flags = cond (nat_eq flags 32) (codes " canceled") []
+
+-- a flag is set
+abbrev pub has_flag : ℕ → ℕ → Bool
+has_flag flag flags = not (bit_and flags flag == 0)
+
+-- a word if it stands there
+abbrev pub word_if : Bool → List ℕ → List ℕ
+word_if b word = cond b word []
+
+-- the words of a motion's flags: ` canceled`, and its marks
+unfoldable pub flag_words : ℕ → List ℕ
+flag_words flags =
+    canceled (unmarked flags) ++ word_if (has_flag flag_obscured flags) (codes " obscured") ++ word_if (has_flag flag_partly flags) (codes " partly")
 
 -- the place of the pointer that goes down or up, behind a colon
 unfoldable pub indexed : List ℕ → ℕ → List ℕ
@@ -41,11 +55,11 @@ pointers (p ∷ ps) = pointer p.id p.at.x p.at.y ++ pointers ps
 
 -- `motion`, the device, the action and the pointers
 unfoldable pub motion : Motion → List ℕ
-motion m = codes "motion " ++ decimal m.device ++ codes " " ++ action m.action m.index ++ canceled m.flags ++ pointers m.pointers
+motion m = codes "motion " ++ decimal m.device ++ codes " " ++ action m.action m.index ++ flag_words m.flags ++ pointers m.pointers
 
 -- a motion without its pointers
 abbrev pub head : Motion → List ℕ
-head m = codes "motion " ++ decimal m.device ++ codes " " ++ action m.action m.index ++ canceled m.flags
+head m = codes "motion " ++ decimal m.device ++ codes " " ++ action m.action m.index ++ flag_words m.flags
 
 -- the last words of a key message: DOWN and the repeat number, or UP, canceled or not, and the repeat number
 unfoldable pub key_end : Bool → ℕ → ℕ → List ℕ

@@ -6,8 +6,8 @@ use Rattle.stream_text.specs.declared.stream_line.StreamLine.{StreamLine}
 use Rattle.stream_text.specs.declared.stream_line.StreamLine.TheVariants.{Channel, Message}
 use Rattle.stream_text.specs.declared.stream_error.StreamError.{StreamError}
 use Rattle.stream_text.specs.declared.stream_error.StreamError.TheVariants.{BadLine, Memory}
-use Rattle.stream_text.specs.declared.stream_file.StreamChannel.{StreamChannel}
-use Rattle.stream_text.specs.declared.stream_file.StreamFile.{StreamFile}
+use Rattle.stream_text.specs.declared.reading.stream_file.StreamChannel.{StreamChannel}
+use Rattle.stream_text.specs.declared.reading.stream_file.StreamFile.{StreamFile}
 use Rattle.stream_text.specs.StreamFile.{Event, Stream, messages_of, streams_in, streams_of, with_event}
 
 -- the streams of a file without where they lie in memory

@@ -26,29 +26,21 @@
 //! by line and takes no memory; `StreamReader` answers its streams.
 #![tactic(auto)]
 
-mod digits;
-mod kept_digits;
-mod kept_pointers;
-mod message;
-mod message_line;
-mod number;
 mod order;
 mod order_error;
 mod order_front;
 mod order_line;
-mod prepend;
-mod section;
+mod reading;
 mod stream_error;
-mod stream_file;
 mod stream_line;
-mod stream_lines;
+mod writing;
 
-pub use message::{LineWriter, message_text};
 pub use order::{Order, order_text};
 pub use order_error::OrderError;
 pub use order_line::OrderLine;
-pub use section::{anr_text, channel_line_text, channel_text, end_line_text};
+pub use reading::stream_file::{StreamChannel, StreamFile, StreamReader};
+pub use reading::stream_lines::StreamLines;
 pub use stream_error::StreamError;
-pub use stream_file::{StreamChannel, StreamFile, StreamReader};
 pub use stream_line::StreamLine;
-pub use stream_lines::StreamLines;
+pub use writing::message::{LineWriter, message_text};
+pub use writing::section::{anr_text, channel_line_text, channel_text, end_line_text};

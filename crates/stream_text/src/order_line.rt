@@ -3,7 +3,7 @@ ghost use Rattle.std.specs.Prelude.{◌≡◌, ◌++◌, IfOk, IfSome, ◌≤◌
 ghost use Rattle.stream_text.specs.Order.{HasLane, finish_line, number_alone, line_spelling, order_line_of, receive_line, script_line};
 ghost use Rattle.stream_text.specs.OrderText.{head_of};
 
-use crate::number::{number, past};
+use crate::reading::number::{number, past};
 use std::alloc::AllocError;
 use text_lines::{add_labeled, add_word};
 

@@ -1,6 +1,0 @@
-use Rattle.std.proofs.Common.{sym, arith}
-use Rattle.std.proofs.lemmas.Fmt.{decimal_digit}
-use Rattle.stream_text.proofs.kept_digits.Digits.one.Goals as goal
-
-pub returns : goal.returns
-returns c = sym (decimal_digit 1 (omega arith))

@@ -1,0 +1,98 @@
+//! Motions as texts.
+ghost use Rattle.std.specs.Prelude.{◌≡◌, ◌+◌, ◌≤◌, [], ◌∷◌, ◌++◌, codes, length, drop, decimal};
+ghost use Rattle.input_types.specs.declared.motion.MotionAction.TheVariants.{Move};
+ghost use Rattle.stream_text.specs.Spelling.{action, flag_words, head, indexed, motion};
+ghost use Rattle.stream_text.specs.KeptText.{Holds, Moves};
+
+use crate::writing::flags::prepend_flags;
+use crate::writing::kept_pointers::KeptPointers;
+use crate::writing::prepend::{Room, prepend_number, prepend_word};
+use input_types::{Motion, MotionAction};
+
+#[tactic(auto, unfolding(crate::specs::Spelling::indexed))]
+fn prepend_indexed(line: &mut Room, end: usize, name: &str, index: u8) -> usize
+    requires { (length name.now + 23 ≤ end) × (end ≤ 1280) }
+    ensures within { (result ≤ end) × (end ≤ result + length name.now + 21) }
+    ensures written { drop result line.new ≡ indexed name.now index ++ drop end line.old }
+{
+    let at = prepend_number(line, end, u64::from(index));
+    let at = prepend_word(line, at, ":");
+    prepend_word(line, at, name)
+}
+
+fn prepend_action(line: &mut Room, end: usize, motion: &Motion) -> usize
+    requires { (76 ≤ end) × (end ≤ 1280) }
+    ensures within { (result ≤ end) × (end ≤ result + 58) }
+    ensures written { drop result line.new
+        ≡ action motion.now.action motion.now.index ++ flag_words motion.now.flags ++ drop end line.old }
+{
+    let at = prepend_flags(line, end, motion);
+    match motion.action {
+        MotionAction::Down => prepend_word(line, at, "DOWN"),
+        MotionAction::Up => prepend_word(line, at, "UP"),
+        MotionAction::Move => prepend_word(line, at, "MOVE"),
+        MotionAction::Cancel => prepend_word(line, at, "CANCEL"),
+        MotionAction::Outside => prepend_word(line, at, "OUTSIDE"),
+        MotionAction::PointerDown => prepend_indexed(line, at, "POINTER_DOWN", motion.index),
+        MotionAction::PointerUp => prepend_indexed(line, at, "POINTER_UP", motion.index),
+    }
+}
+
+/// Puts the word `motion` and the number of a device in front of an action, and answers where they begin.
+#[inline(always)]
+fn prepend_device(line: &mut Room, end: usize, device: u8) -> usize
+    requires { (38 ≤ end) × (end ≤ 1280) }
+    ensures within { (result ≤ end) × (end ≤ result + 28) }
+    ensures written { drop result line.new ≡ codes "motion " ++ decimal device ++ codes " " ++ drop end line.old }
+{
+    let at = prepend_word(line, end, " ");
+    let at = prepend_number(line, at, u64::from(device));
+    prepend_word(line, at, "motion ")
+}
+
+/// Puts what stands in front of the pointers of a motion in front of `end`, and answers where it begins.
+#[inline(always)]
+fn prepend_head(line: &mut Room, end: usize, told: &Motion) -> usize
+    requires { (96 ≤ end) × (end ≤ 1280) }
+    ensures within { (result ≤ end) × (end ≤ result + 86) }
+    ensures written { drop result line.new ≡ head told.now ++ drop end line.old }
+{
+    let at = prepend_action(line, end, told);
+    prepend_device(line, at, told.device.get())
+}
+
+/// Puts a motion at the end of the place, and answers where it begins. No Move is kept then.
+#[inline(always)]
+pub(crate) fn prepend_motion(line: &mut Room, kept: &mut KeptPointers, told: &Motion) -> usize
+    requires { Holds line.old kept.old.list kept.old.at }
+    ensures within { (134 ≤ result) × (result ≤ kept.new.at) }
+    ensures moves { kept.new.moves ≡ 0 }
+    ensures holds { Holds line.new kept.new.list kept.new.at }
+    ensures written { drop result line.new ≡ motion told.now ++ 10 ∷ [] }
+{
+    let at = kept.put(line, &told.pointers);
+    prepend_head(line, at, told)
+}
+
+/// Puts a Move with flags 0 at the end of the place where it does not stand there yet, and answers where it begins.
+#[inline(always)]
+pub(crate) fn prepend_move(line: &mut Room, kept: &mut KeptPointers, told: &Motion) -> usize
+    requires plain { (told.now.action ≡ Move) × (told.now.flags ≡ 0) }
+    requires holds { Holds line.old kept.old.list kept.old.at }
+    requires moves { Moves 134 line.old kept.old.moves kept.old.list kept.old.at kept.old.front }
+    ensures within { (134 ≤ result) × (result ≤ kept.new.at) }
+    ensures holds { Holds line.new kept.new.list kept.new.at }
+    ensures moves { Moves result line.new kept.new.moves kept.new.list kept.new.at kept.new.front }
+    ensures written { drop result line.new ≡ motion told.now ++ 10 ∷ [] }
+{
+    let device = told.device.get();
+    if kept.moves == device && kept.has(&told.pointers) {
+        return kept.front;
+    }
+    let at = kept.put_anew(line, &told.pointers);
+    let at = prepend_word(line, at, "MOVE");
+    let at = prepend_device(line, at, device);
+    kept.moves = device;
+    kept.front = at;
+    at
+}
