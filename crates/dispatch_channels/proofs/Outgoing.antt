@@ -8,7 +8,10 @@ use Rattle.input_types.specs.declared.message.Body.{Body}
 use Rattle.input_types.specs.declared.message.Body.TheVariants.{Motion as MotionBody}
 use Rattle.input_types.specs.declared.motion.MotionAction.TheVariants.{Move}
 use Rattle.input_types.specs.declared.pointer.Pointer.{Pointer}
+use Rattle.input_types.specs.declared.motion.Motion.{Motion}
+use Rattle.routing_rules.specs.Cover.{with_flags}
 use Rattle.routing_rules.specs.Outgoing.{plain}
+use Rattle.input_channel.specs.Moves.{move_of}
 use Rattle.input_channel.specs.declared.unfinished.Unfinished.{Unfinished}
 use Rattle.input_channel.specs.Order.{NoneAfter, without}
 use Rattle.input_channel.specs.State.{ChannelState, opened_with, enqueued, with_spare}
@@ -36,6 +39,14 @@ sends t c body heard o clock x s j i from hears is was tracked within =
 -- what is kept of a window that was told that pointers move
 pub moved : (d : ℕ) (ps : List Pointer) (j i : Tracked) → Tracks j i (MotionBody (plain d Move ps)) → pointers_of i d ≡ ps
 moved d ps j i h = h.pointers_are d ∙ ap (λ b. if b then ps else pointers_of j d) (eq-eqb d d refl)
+
+-- a Move leaves the same whatever its flags
+pub tracked_flagged : (d flags : ℕ) (ps : List Pointer) (j i : Tracked) → Tracks j i (MotionBody (plain d Move ps)) → Tracks j i (MotionBody (move_of d flags ps))
+tracked_flagged d flags ps j i t = record { pointers_are = λ e. t.pointers_are e; keys_are = t.keys_are; spare_is = t.spare_is }
+
+-- and so does any motion
+pub tracked_with : (flags : ℕ) (m : Motion) (j i : Tracked) → Tracks j i (MotionBody m) → Tracks j i (MotionBody (with_flags flags m))
+tracked_with flags m j i t = record { pointers_are = λ e. t.pointers_are e; keys_are = t.keys_are; spare_is = t.spare_is }
 
 map_set : {A B : Type 0} (f : A → B) (xs : List A) (k : ℕ) (v d : A) → f v ≡ f (get_or xs k d) → map f (set xs k v) ≡ map f xs
 map_set f [] k v d e = refl

@@ -2,6 +2,7 @@
 ghost use Rattle.std.specs.Prelude.{◌≡◌, ℕ, true, [], ◌≤◌, ◌<◌, length, is_ok, option_copied, OnOk, OnErr, IfOk, IsOk};
 ghost use Rattle.input_types.specs.declared.message.Body.TheVariants.{Motion as MotionBody};
 ghost use Rattle.window_snapshot.specs.Mask.{mask_has};
+ghost use Rattle.routing_rules.specs.Cover.{with_flags};
 ghost use Rattle.input_channel.specs.Order.{NoneAfter};
 ghost use Rattle.input_channel.specs.State.{next_of, received_one, received_next, passed, may_finish};
 ghost use Rattle.dispatch_tables.specs.Delivery.{none_noted};
@@ -158,14 +159,22 @@ impl Channels {
         track(&mut self.inputs[place], body);
     }
 
-    /// A live channel is sent a motion, as `send` would tell it, without a body in display pixels. Takes no memory.
-    pub fn send_motion(&mut self, channel: u32, motion: &Motion, origin: Pixel, clock: Moment)
+    /// A live channel is sent a motion with these flags in place of its own, as `send` would tell it, without a body in
+    /// display pixels. Takes no memory.
+    pub fn send_motion(
+        &mut self,
+        channel: u32,
+        motion: &Motion,
+        flags: u32,
+        origin: Pixel,
+        clock: Moment,
+    )
         requires live { mask_has self.old.live channel ≡ true }
         requires room { 1 ≤ (channel_of self.old channel).spare }
-        ensures { Sends channel (MotionBody motion.now) origin clock self.old self.new }
+        ensures { Sends channel (MotionBody (with_flags flags motion.now)) origin clock self.old self.new }
     {
         let place = channel as usize - 1;
-        let body = Body::Motion(motion_from(origin, motion));
+        let body = Body::Motion(motion_from(origin, flags, motion));
         let _seq = self.channels[place].enqueue_reserved(body, clock);
         self.inputs[place].track_motion(motion);
     }

@@ -1,5 +1,6 @@
 //! What the owner of a channel reads of what its window is sent.
 ghost use Rattle.std.specs.Prelude.{◌≡◌};
+ghost use Rattle.routing_rules.specs.Cover.{with_flags};
 ghost use Rattle.dispatch_history.specs.Said.{motion_from};
 ghost use Rattle.input_channel.specs.Moves.{counted_from};
 ghost use Rattle.dispatch_channels.specs.Heard.{body_from};
@@ -12,22 +13,23 @@ pub(crate) fn body_from(origin: Pixel, body: &Body) -> Body
     ensures { result ≡ body_from origin body.now }
 {
     match body {
-        Body::Motion(motion) => Body::Motion(motion_from(origin, motion)),
+        Body::Motion(motion) => Body::Motion(motion_from(origin, motion.flags, motion)),
         Body::Key(message) => Body::Key(*message),
         Body::Focus(has_focus) => Body::Focus(*has_focus),
     }
 }
 
-/// A motion whose places are counted from an origin. It is inlined, so that its list is not copied on the way out.
+/// A motion with these flags, whose places are counted from an origin. It is inlined, so that its list is not copied on
+/// the way out.
 #[inline(always)]
-pub(crate) fn motion_from(origin: Pixel, motion: &Motion) -> Motion
-    ensures { result ≡ motion_from origin motion.now }
+pub(crate) fn motion_from(origin: Pixel, flags: u32, motion: &Motion) -> Motion
+    ensures { result ≡ motion_from origin (with_flags flags motion.now) }
 {
     Motion {
         device: motion.device,
         action: motion.action,
         index: motion.index,
-        flags: motion.flags,
+        flags,
         pointers: pointers_from(origin, &motion.pointers),
     }
 }

@@ -6,7 +6,7 @@ use Rattle.input_types.specs.declared.message.Body.{Body}
 use Rattle.input_types.specs.declared.message.Body.TheVariants.{Motion as MotionBody, Key as KeyBody, Focus as FocusBody}
 use Rattle.input_types.specs.declared.message.Message.{Message}
 use Rattle.input_types.specs.declared.motion.Motion.{Motion}
-use Rattle.input_types.specs.Gestures.{after_motion, allowed, differ}
+use Rattle.input_types.specs.Gestures.{after_sent, allowed, differ}
 use Rattle.input_types.specs.StreamRule.{StreamState, unsent, after_key, after_body, stream_state, with_ids, with_repeat}
 use Rattle.dispatch_history.specs.Effect.{ids_after, sent_down, focus_after, sent_focus}
 use Rattle.dispatch_history.specs.Known.{is_key, repeat_after, sent_repeat}
@@ -31,7 +31,7 @@ some_before true f None e = e
 some_before false f None e = e
 
 ids_before : (d : ℕ) (b : Body) (x : Option (List ℕ)) → is_some (ids_after d b x) ≡ true → is_some x ≡ true
-ids_before d (MotionBody m) x e = some_before (m.device == d) (λ down. after_motion down m) x e
+ids_before d (MotionBody m) x e = some_before (m.device == d) (λ down. after_sent down m) x e
 ids_before d (KeyBody m) x e = e
 ids_before d (FocusBody b) x e = e
 
@@ -69,11 +69,11 @@ turned a b =
 motion_agrees : (m : Message) (k : Motion) (past : List Message) → m.body ≡ MotionBody k → Comes (m ∷ past) → Agrees past → Agrees (m ∷ past)
 motion_agrees m k past b c a =
     let d = k.device in
-    let came : is_some (after_motion (a.state.ids d) k) ≡ true =
-    sym (ap (λ body. is_some (ids_after d body (sent_down d past))) b ∙ ap (λ x. is_some (cond (d == d) (option_and_then (λ down. after_motion down k) x) x)) (a.ids d)
-    ∙ ap (λ t. is_some (cond t (after_motion (a.state.ids d) k) (Some (a.state.ids d)))) (eq-eqb d d refl))
+    let came : is_some (after_sent (a.state.ids d) k) ≡ true =
+    sym (ap (λ body. is_some (ids_after d body (sent_down d past))) b ∙ ap (λ x. is_some (cond (d == d) (option_and_then (λ down. after_sent down k) x) x)) (a.ids d)
+    ∙ ap (λ t. is_some (cond t (after_sent (a.state.ids d) k) (Some (a.state.ids d)))) (eq-eqb d d refl))
     ∙ c.ids d in
-    let next = the_some (after_motion (a.state.ids d) k) came in
+    let next = the_some (after_sent (a.state.ids d) k) came in
     let state : StreamState = record { ids = with_ids a.state.ids d next.0; repeats = a.state.repeats; focus = a.state.focus } in
     record {
       state = state;
@@ -83,16 +83,16 @@ motion_agrees m k past b c a =
           ∙ ap (option_map (λ ids. record { ids = with_ids a.state.ids d ids; repeats = a.state.repeats; focus = a.state.focus })) next.1;
       ids =
           λ e. ap (λ body. ids_after e body (sent_down e past)) b
-          ∙ ap (λ x. cond (d == e) (option_and_then (λ down. after_motion down k) x) x) (a.ids e)
+          ∙ ap (λ x. cond (d == e) (option_and_then (λ down. after_sent down k) x) x) (a.ids e)
           ∙ at_device e (d == e) refl next.0 next.1;
       repeats = λ e s. ap (λ body. repeat_after e s body (sent_repeat e s past)) b ∙ a.repeats e s;
       focus = ap (λ body. focus_after body (sent_focus past)) b ∙ a.focus;
     }
   where
-    at_device : (e : ℕ) (t : Bool) → (k.device == e) ≡ t → (next : List ℕ) → after_motion (a.state.ids k.device) k ≡ Some next
-        → cond t (after_motion (a.state.ids e) k) (Some (a.state.ids e)) ≡ Some (with_ids a.state.ids k.device next e)
+    at_device : (e : ℕ) (t : Bool) → (k.device == e) ≡ t → (next : List ℕ) → after_sent (a.state.ids k.device) k ≡ Some next
+        → cond t (after_sent (a.state.ids e) k) (Some (a.state.ids e)) ≡ Some (with_ids a.state.ids k.device next e)
     at_device e true q next r =
-        ap (λ x. after_motion (a.state.ids x) k) (sym (eqb-true k.device e q)) ∙ r ∙ sym (ap (λ t. Some (cond t next (a.state.ids e))) (turned e k.device ∙ q))
+        ap (λ x. after_sent (a.state.ids x) k) (sym (eqb-true k.device e q)) ∙ r ∙ sym (ap (λ t. Some (cond t next (a.state.ids e))) (turned e k.device ∙ q))
     at_device e false q next r = sym (ap (λ t. Some (cond t next (a.state.ids e))) (turned e k.device ∙ q))
 
 key_agrees : (m : Message) (k : KeyMsg) (past : List Message) → m.body ≡ KeyBody k → Comes (m ∷ past) → Agrees past → Agrees (m ∷ past)

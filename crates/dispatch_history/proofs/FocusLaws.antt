@@ -12,6 +12,8 @@ use Rattle.input_types.specs.declared.axis.Pixel.{Pixel}
 use Rattle.dispatch_calls.specs.declared.call.Call.{Call}
 use Rattle.dispatch_calls.specs.declared.reply.Reply.{Reply}
 use Rattle.window_snapshot.specs.Named.{is_focusable_on}
+use Rattle.routing_rules.specs.Cover.{under_all}
+use Rattle.routing_rules.specs.Marks.{covered}
 use Rattle.routing_rules.specs.Given.{mark}
 use Rattle.routing_rules.specs.Outgoing.{sent_with, devices}
 use Rattle.dispatch_history.specs.History.{History, clock, live, origin, snapshot}
@@ -21,7 +23,7 @@ use Rattle.dispatch_history.specs.Effects.{effects, said_at}
 use Rattle.focus_resolver.specs.Resolver.{all_displays, focus_if, is_at}
 use Rattle.dispatch_history.specs.Focus.{focus, may_focus, requested, has_focus, focus_sent}
 use Rattle.dispatch_history.specs.Said.{motions_said, keys_said, motion_from}
-use Rattle.dispatch_history.specs.Step.{scene, step_of}
+use Rattle.dispatch_history.specs.Step.{scene, step_of, marks}
 use Rattle.dispatch_history.specs.Laws.{FocusLaw, FocusComesLaw}
 use Rattle.dispatch_history.proofs.LegalLaws.{effects_law}
 use Rattle.dispatch_history.proofs.StreamLaws.{stream_step, silent_law}
@@ -90,13 +92,14 @@ step_focus ds call answer es w n =
     let e = step_of (snapshot (past_of es)) call answer args in
     let o = origin (past_of es) w in
     let x : Option Bool = Some (has_focus (past_of es) w) in
-    let m = motions_said s e (mark s e) o w in
+    let cover = covered (mark s e ∷ marks es) w in
+    let m = motions_said s e (mark s e) cover o w in
     let k = keys_said after_it args es w in
     let f = focus_sent (has_focus (past_of es) w) (has_focus after_it w) in
     ap (λ bs. bodies_after focus_after bs x) (live_said ds call answer es w n)
     ∙ bodies_after-append focus_after (m ++ k) f x
     ∙ ap (bodies_after focus_after f) (bodies_after-append focus_after m k x)
-    ∙ ap (λ y. bodies_after focus_after f (bodies_after focus_after k y)) (motions_after focus_after (λ v y. refl) o (flat_map (sent_with s e (mark s e) w) devices) x)
+    ∙ ap (λ y. bodies_after focus_after f (bodies_after focus_after k y)) (motions_after focus_after (λ v y. refl) o (under_all cover (flat_map (sent_with s e (mark s e) w) devices)) x)
     ∙ ap (bodies_after focus_after f) (keys_said_focus after_it answer args es w x)
     ∙ moved_focus (has_focus (past_of es) w) (has_focus after_it w)
   where

@@ -9,6 +9,8 @@ use Rattle.input_types.specs.declared.message.Message.{Message}
 use Rattle.input_types.specs.declared.motion.Motion.{Motion}
 use Rattle.input_types.specs.StreamRule.{after_key}
 use Rattle.key_repeat.specs.Due.{Sent}
+use Rattle.routing_rules.specs.Cover.{under_all}
+use Rattle.routing_rules.specs.Marks.{covered}
 use Rattle.routing_rules.specs.Given.{mark}
 use Rattle.routing_rules.specs.Outgoing.{sent_with, devices}
 use Rattle.dispatch_calls.specs.declared.call.Call.{Call}
@@ -17,7 +19,7 @@ use Rattle.dispatch_history.specs.History.{History, clock, live, origin, snapsho
 use Rattle.dispatch_history.specs.Queue.{inbound, args_of}
 use Rattle.dispatch_history.specs.Effect.{Outgoing, past_of, stream, sent_on, sent_to}
 use Rattle.dispatch_history.specs.Effects.{effects, said_at}
-use Rattle.dispatch_history.specs.Step.{scene, step_of}
+use Rattle.dispatch_history.specs.Step.{scene, step_of, marks}
 use Rattle.dispatch_history.specs.Focus.{has_focus, is_target, focus_sent}
 use Rattle.dispatch_history.specs.Delivery.{able}
 use Rattle.dispatch_history.specs.Keys.{loses_all, keys}
@@ -113,7 +115,8 @@ said_known ds call answer h w d s l n =
     let e = step_of (snapshot (past_of es)) call answer args in
     let o = origin (past_of es) w in
     let x = known d s (stream es w) in
-    let m = motions_said sc e (mark sc e) o w in
+    let cover = covered (mark sc e ∷ marks es) w in
+    let m = motions_said sc e (mark sc e) cover o w in
     let k = keys_said after_it args es w in
     let f = focus_sent (has_focus (past_of es) w) (has_focus after_it w) in
     ap (known d s) (stream_step ds call answer h w l)
@@ -122,7 +125,7 @@ said_known ds call answer h w d s l n =
     ∙ bodies_known-append d s (m ++ k) f x
     ∙ focus_known d s (has_focus (past_of es) w) (has_focus after_it w) (bodies_known d s (m ++ k) x)
     ∙ bodies_known-append d s m k x
-    ∙ ap (bodies_known d s k) (motions_known d s o (flat_map (sent_with sc e (mark sc e) w) devices) x)
+    ∙ ap (bodies_known d s k) (motions_known d s o (under_all cover (flat_map (sent_with sc e (mark sc e) w) devices)) x)
     ∙ keys_known d s
     (keys_sent args (is_target (past_of es) w && able es w) (loses_all after_it (past_of es) w) (keys es w) ++ repeat_by after_it (last_key es) w) x
 

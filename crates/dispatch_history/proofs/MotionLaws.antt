@@ -22,6 +22,7 @@ use Rattle.dispatch_history.proofs.LegalLaws.{effects_law}
 use Rattle.dispatch_history.proofs.FitLaws.{held_then, step_facts, fit_law}
 use Rattle.dispatch_history.proofs.StreamLaws.{live_law, removed_live, stream_step, silent_law}
 use Rattle.dispatch_history.proofs.HolderLaws.{holder_law}
+use Rattle.routing_rules.specs.Marks.{covered}
 use Rattle.routing_rules.specs.Given.{mark}
 use Rattle.routing_rules.specs.Outgoing.{sent_with, outgoing, after, devices}
 use Rattle.routing_rules.specs.Fits.{sent_ids, Leaves}
@@ -59,7 +60,7 @@ pub live_said : (ds : List ℕ) (call : Call) (answer : Reply) (es : List Effect
     let args = args_of call answer (inbound (past_of es)) in
     let s = scene ds es in
     let e = step_of (snapshot (past_of es)) call answer args in
-    motions_said s e (mark s e) (origin (past_of es) w) w ++ keys_said after_it args es w ++ focus_sent (has_focus (past_of es) w) (has_focus after_it w))
+    motions_said s e (mark s e) (covered (mark s e ∷ marks es) w) (origin (past_of es) w) w ++ keys_said after_it args es w ++ focus_sent (has_focus (past_of es) w) (has_focus after_it w))
 live_said ds call answer es w n = rw n refl
 
 keys_said_down : (d : ℕ) (after_it : History) (answer : Reply) (args : Option Args) (es : List Effect) (w : ℕ) (x : Option (List ℕ))
@@ -78,7 +79,8 @@ step_down ds call answer es w d ids next n h t =
     let s = scene ds es in
     let e = step_of (snapshot (past_of es)) call answer args in
     let o = origin (past_of es) w in
-    let m = motions_said s e (mark s e) o w in
+    let cover = covered (mark s e ∷ marks es) w in
+    let m = motions_said s e (mark s e) cover o w in
     let k = keys_said after_it args es w in
     let f = focus_sent (has_focus (past_of es) w) (has_focus after_it w) in
     ap (λ bs. bodies_down d bs (Some ids)) (live_said ds call answer es w n)
@@ -86,7 +88,7 @@ step_down ds call answer es w d ids next n h t =
     ∙ focus_down d (has_focus (past_of es) w) (has_focus after_it w) (bodies_down d (m ++ k) (Some ids))
     ∙ bodies_down-append d m k (Some ids)
     ∙ keys_said_down d after_it answer args es w (bodies_down d m (Some ids))
-    ∙ one_of_devices (sent_with s e (mark s e) w) d o devices ids next (λ v. sent_of s e (mark s e) w v) devices_differ h t
+    ∙ one_of_devices cover (sent_with s e (mark s e) w) d o devices ids next (λ v. sent_of s e (mark s e) w v) devices_differ h t
 
 -- nothing is sent for a device without one of the numbers
 step_skips : (ds : List ℕ) (call : Call) (answer : Reply) (es : List Effect) (w d : ℕ) (x : Option (List ℕ)) → live ((call, answer) ∷ past_of es) w ≡ true → list_any (λ e. e == d) devices ≡ false
@@ -97,7 +99,8 @@ step_skips ds call answer es w d x n h =
     let s = scene ds es in
     let e = step_of (snapshot (past_of es)) call answer args in
     let o = origin (past_of es) w in
-    let m = motions_said s e (mark s e) o w in
+    let cover = covered (mark s e ∷ marks es) w in
+    let m = motions_said s e (mark s e) cover o w in
     let k = keys_said after_it args es w in
     let f = focus_sent (has_focus (past_of es) w) (has_focus after_it w) in
     ap (λ bs. bodies_down d bs x) (live_said ds call answer es w n)
@@ -105,7 +108,7 @@ step_skips ds call answer es w d x n h =
     ∙ focus_down d (has_focus (past_of es) w) (has_focus after_it w) (bodies_down d (m ++ k) x)
     ∙ bodies_down-append d m k x
     ∙ keys_said_down d after_it answer args es w (bodies_down d m x)
-    ∙ none_of_devices (sent_with s e (mark s e) w) d o devices x (λ v. sent_of s e (mark s e) w v) h
+    ∙ none_of_devices cover (sent_with s e (mark s e) w) d o devices x (λ v. sent_of s e (mark s e) w v) h
 
 -- a channel that is not opened yet was sent nothing
 pub opened_mono : (call : Call) (answer : Reply) (n : ℕ) → n ≤ opened_after call answer n

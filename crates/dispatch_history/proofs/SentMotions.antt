@@ -11,7 +11,9 @@ use Rattle.input_types.specs.declared.motion.MotionAction.TheVariants.{Outside}
 use Rattle.window_snapshot.specs.Hits.{is_watcher_at}
 use Rattle.input_types.specs.declared.axis.Pixel.{Pixel}
 use Rattle.input_types.specs.declared.pointer.Pointer.{Pointer}
-use Rattle.input_types.specs.Gestures.{ids_of, after_motion, after_action}
+use Rattle.input_types.specs.Gestures.{ids_of, after_motion, after_sent, after_action, judged_flags}
+use Rattle.routing_rules.proofs.UnderLaws.{under_comes}
+use Rattle.routing_rules.specs.Cover.{Cover, under, under_all}
 use Rattle.routing_rules.specs.Marks.{Mark}
 use Rattle.routing_rules.specs.Scene.{Scene, Step, Moves, Resets, Pilfers, Shows, Mutes, Removes, NoOp}
 use Rattle.routing_rules.specs.Given.{changed}
@@ -117,31 +119,35 @@ ids_shifted : (o : Pixel) (ps : List Pointer) → ids_of (map (λ p. record { id
 ids_shifted o [] = refl
 ids_shifted o (p ∷ ps) = ap (λ ids. p.id ∷ ids) (ids_shifted o ps)
 
-after_shifted : (o : Pixel) (m : Motion) (ids : List ℕ) → after_motion ids (motion_from o m) ≡ after_motion ids m
-after_shifted o m ids = ap (λ xs. after_action m.action ids xs m.index m.flags) (ids_shifted o m.pointers)
+after_shifted : (o : Pixel) (m : Motion) (ids : List ℕ) → after_sent ids (motion_from o m) ≡ after_sent ids m
+after_shifted o m ids = ap (λ xs. after_action m.action ids xs m.index (judged_flags m.action m.flags)) (ids_shifted o m.pointers)
+
+-- motions that a window is sent under a cover
+abbrev pub sent_under : (ℕ → Cover) → Pixel → List Motion → List Body
+sent_under cover o ms = shifted o (under_all cover ms)
 
 -- motions of another device change nothing
-others_down : (d e : ℕ) (o : Pixel) (ms : List Motion) (x : Option (List ℕ)) → (e == d) ≡ false → AllOf e ms → bodies_down d (shifted o ms) x ≡ x
+others_down : (cover : ℕ → Cover) (d e : ℕ) (o : Pixel) (ms : List Motion) (x : Option (List ℕ)) → (e == d) ≡ false → AllOf e ms → bodies_down d (sent_under cover o ms) x ≡ x
 unfolding bodies_down
-others_down d e o [] x n a = refl
-others_down d e o (m ∷ ms) x n a =
-    ap (λ c. bodies_down d (shifted o ms) (cond c (option_and_then (λ down. after_motion down (motion_from o m)) x) x)) (ap (λ v. v == d) a.0 ∙ n)
-    ∙ others_down d e o ms x n a.1
+others_down cover d e o [] x n a = refl
+others_down cover d e o (m ∷ ms) x n a =
+    ap (λ c. bodies_down d (sent_under cover o ms) (cond c (option_and_then (λ down. after_sent down (motion_from o (under (cover m.device) m))) x) x)) (ap (λ v. v == d) a.0 ∙ n)
+    ∙ others_down cover d e o ms x n a.1
 
 -- motions of the device change it as they do
-own_down : (d : ℕ) (o : Pixel) (ms : List Motion) (ids next : List ℕ) → AllOf d ms → sent_ids ids ms ≡ Some next → bodies_down d (shifted o ms) (Some ids) ≡ Some next
+own_down : (cover : ℕ → Cover) (d : ℕ) (o : Pixel) (ms : List Motion) (ids next : List ℕ) → AllOf d ms → sent_ids ids ms ≡ Some next → bodies_down d (sent_under cover o ms) (Some ids) ≡ Some next
 unfolding bodies_down
-own_down d o [] ids next a e = e
-own_down d o (m ∷ ms) ids next a e =
-    ap (λ c. bodies_down d (shifted o ms) (cond c (after_motion ids (motion_from o m)) (Some ids))) (eq-eqb m.device d a.0)
-    ∙ ap (bodies_down d (shifted o ms)) (after_shifted o m ids)
-    ∙ came (after_motion ids m) e (λ down k. own_down d o ms down next a.1 k)
+own_down cover d o [] ids next a e = e
+own_down cover d o (m ∷ ms) ids next a e =
+    ap (λ c. bodies_down d (sent_under cover o ms) (cond c (after_sent ids (motion_from o (under (cover m.device) m))) (Some ids))) (eq-eqb m.device d a.0)
+    ∙ ap (bodies_down d (sent_under cover o ms)) (after_shifted o (under (cover m.device) m) ids)
+    ∙ came (after_motion ids m) refl e (λ down k. own_down cover d o ms down next a.1 k)
   where
-    came : (x : Option (List ℕ)) → option_and_then (λ down. sent_ids down ms) x ≡ Some next
-        → ((down : List ℕ) → sent_ids down ms ≡ Some next → bodies_down d (shifted o ms) (Some down) ≡ Some next)
-        → bodies_down d (shifted o ms) x ≡ Some next
-    came None e more = cc
-    came (Some down) e more = more down e
+    came : (x : Option (List ℕ)) → after_motion ids m ≡ x → option_and_then (λ down. sent_ids down ms) x ≡ Some next
+        → ((down : List ℕ) → sent_ids down ms ≡ Some next → bodies_down d (sent_under cover o ms) (Some down) ≡ Some next)
+        → bodies_down d (sent_under cover o ms) (after_sent ids (under (cover m.device) m)) ≡ Some next
+    came None is e more = cc
+    came (Some down) is e more = ap (bodies_down d (sent_under cover o ms)) (under_comes (cover m.device) m ids down is) ∙ more down e
 
 -- keys and the focus change nothing
 pub keys_down : (d : ℕ) (ks : List KeyMsg) (x : Option (List ℕ)) → bodies_down d (map Key ks) x ≡ x
@@ -161,36 +167,36 @@ abbrev pub Differ : List ℕ → Type 0
 Differ [] = Unit {0}
 Differ (d ∷ ds) = (list_any (λ e. e == d) ds ≡ false) × Differ ds
 
-pub map_flat : (o : Pixel) (xs ys : List Motion) → shifted o (xs ++ ys) ≡ shifted o xs ++ shifted o ys
-map_flat o [] ys = refl
-map_flat o (x ∷ xs) ys = ap (λ bs. MotionBody (motion_from o x) ∷ bs) (map_flat o xs ys)
+pub map_flat : (cover : ℕ → Cover) (o : Pixel) (xs ys : List Motion) → sent_under cover o (xs ++ ys) ≡ sent_under cover o xs ++ sent_under cover o ys
+map_flat cover o [] ys = refl
+map_flat cover o (x ∷ xs) ys = ap (λ bs. MotionBody (motion_from o (under (cover x.device) x)) ∷ bs) (map_flat cover o xs ys)
 
-pub none_of_devices : (f : ℕ → List Motion) (d : ℕ) (o : Pixel) (ds : List ℕ) (x : Option (List ℕ)) → ((e : ℕ) → AllOf e (f e)) → list_any (λ e. e == d) ds ≡ false
-    → bodies_down d (shifted o (flat_map f ds)) x ≡ x
+pub none_of_devices : (cover : ℕ → Cover) (f : ℕ → List Motion) (d : ℕ) (o : Pixel) (ds : List ℕ) (x : Option (List ℕ)) → ((e : ℕ) → AllOf e (f e)) → list_any (λ e. e == d) ds ≡ false
+    → bodies_down d (sent_under cover o (flat_map f ds)) x ≡ x
 unfolding bodies_down
-none_of_devices f d o [] x all n = refl
-none_of_devices f d o (e ∷ ds) x all n =
+none_of_devices cover f d o [] x all n = refl
+none_of_devices cover f d o (e ∷ ds) x all n =
     let p = or_parts (e == d) (list_any (λ e. e == d) ds) n in
-    ap (λ bs. bodies_down d bs x) (map_flat o (f e) (flat_map f ds))
-    ∙ bodies_down-append d (shifted o (f e)) (shifted o (flat_map f ds)) x
-    ∙ ap (bodies_down d (shifted o (flat_map f ds))) (others_down d e o (f e) x p.0 (all e))
-    ∙ none_of_devices f d o ds x all p.1
+    ap (λ bs. bodies_down d bs x) (map_flat cover o (f e) (flat_map f ds))
+    ∙ bodies_down-append d (sent_under cover o (f e)) (sent_under cover o (flat_map f ds)) x
+    ∙ ap (bodies_down d (sent_under cover o (flat_map f ds))) (others_down cover d e o (f e) x p.0 (all e))
+    ∙ none_of_devices cover f d o ds x all p.1
 
-pub one_of_devices : (f : ℕ → List Motion) (d : ℕ) (o : Pixel) (ds : List ℕ) (ids next : List ℕ) → ((e : ℕ) → AllOf e (f e)) → Differ ds → list_any (λ e. e == d) ds ≡ true
-    → sent_ids ids (f d) ≡ Some next → bodies_down d (shifted o (flat_map f ds)) (Some ids) ≡ Some next
-one_of_devices f d o [] ids next all a h t = absurd (true≢false (sym h))
-one_of_devices f d o (e ∷ ds) ids next all a h t =
-    ap (λ bs. bodies_down d bs (Some ids)) (map_flat o (f e) (flat_map f ds))
-    ∙ bodies_down-append d (shifted o (f e)) (shifted o (flat_map f ds)) (Some ids)
+pub one_of_devices : (cover : ℕ → Cover) (f : ℕ → List Motion) (d : ℕ) (o : Pixel) (ds : List ℕ) (ids next : List ℕ) → ((e : ℕ) → AllOf e (f e)) → Differ ds → list_any (λ e. e == d) ds ≡ true
+    → sent_ids ids (f d) ≡ Some next → bodies_down d (sent_under cover o (flat_map f ds)) (Some ids) ≡ Some next
+one_of_devices cover f d o [] ids next all a h t = absurd (true≢false (sym h))
+one_of_devices cover f d o (e ∷ ds) ids next all a h t =
+    ap (λ bs. bodies_down d bs (Some ids)) (map_flat cover o (f e) (flat_map f ds))
+    ∙ bodies_down-append d (sent_under cover o (f e)) (sent_under cover o (flat_map f ds)) (Some ids)
     ∙ elim (cases_Bool (e == d)) [
       | inl y ↦
           let q : e ≡ d = eqb-true e d y in
-          ap (bodies_down d (shifted o (flat_map f ds)))
-          (subst (λ v. bodies_down d (shifted o (f v)) (Some ids) ≡ Some next) (sym q) (own_down d o (f d) ids next (all d) t))
-          ∙ none_of_devices f d o ds (Some next) all (subst (λ v. list_any (λ x. x == v) ds ≡ false) q a.0)
+          ap (bodies_down d (sent_under cover o (flat_map f ds)))
+          (subst (λ v. bodies_down d (sent_under cover o (f v)) (Some ids) ≡ Some next) (sym q) (own_down cover d o (f d) ids next (all d) t))
+          ∙ none_of_devices cover f d o ds (Some next) all (subst (λ v. list_any (λ x. x == v) ds ≡ false) q a.0)
       | inr n ↦
-          ap (bodies_down d (shifted o (flat_map f ds))) (others_down d e o (f e) (Some ids) n (all e))
-          ∙ one_of_devices f d o ds ids next all a.1
+          ap (bodies_down d (sent_under cover o (flat_map f ds))) (others_down cover d e o (f e) (Some ids) n (all e))
+          ∙ one_of_devices cover f d o ds ids next all a.1
           (elim (or_cases (e == d) (list_any (λ x. x == d) ds) h) [ inl y ↦ absurd (both_ways (e == d) n y) | inr k ↦ k ]) t
     ]
 

@@ -11,7 +11,8 @@ use Rattle.input_types.specs.declared.motion.Motion.{Motion}
 use Rattle.input_types.specs.declared.motion.MotionAction.TheVariants.{Outside}
 use Rattle.input_types.specs.declared.pointer.Pointer.{Pointer}
 use Rattle.window_snapshot.specs.Hits.{is_watcher_at}
-use Rattle.routing_rules.specs.Marks.{Mark}
+use Rattle.routing_rules.specs.Cover.{Cover}
+use Rattle.routing_rules.specs.Marks.{Mark, covered}
 use Rattle.routing_rules.specs.Scene.{Scene, Step, Moves, Resets, Pilfers, Shows, Mutes, Removes, NoOp}
 use Rattle.routing_rules.specs.Given.{changed, mark}
 use Rattle.routing_rules.specs.Outgoing.{plain, opening, closing, cancels, cancels_of, cancelled_ups, moves, outside, or_else, is_up, is_cancelled, is_first, listing, sent_motion, sent_with, after, devices}
@@ -22,7 +23,7 @@ use Rattle.dispatch_history.specs.History.{History, clock, live, origin, snapsho
 use Rattle.dispatch_history.specs.Queue.{inbound, args_of}
 use Rattle.dispatch_history.specs.Effect.{Effect, past_of, stream, sent_on, sent_down, down_ids}
 use Rattle.dispatch_history.specs.Effects.{effects, said_at}
-use Rattle.dispatch_history.specs.Step.{scene, step_of}
+use Rattle.dispatch_history.specs.Step.{scene, step_of, marks}
 use Rattle.dispatch_history.specs.Focus.{has_focus, focus_sent}
 use Rattle.dispatch_history.specs.Said.{motions_said, keys_said}
 use Rattle.window_snapshot.specs.Origins.{place_from}
@@ -33,7 +34,7 @@ use Rattle.dispatch_history.specs.Laws.{TurnsLaw, TurnsComeLaw}
 use Rattle.dispatch_history.proofs.LegalLaws.{effects_law}
 use Rattle.dispatch_history.proofs.FitLaws.{step_facts, fit_law}
 use Rattle.dispatch_history.proofs.StreamLaws.{stream_step, silent_law}
-use Rattle.dispatch_history.proofs.SentMotions.{shifted}
+use Rattle.dispatch_history.proofs.SentMotions.{sent_under}
 use Rattle.dispatch_history.proofs.MotionLaws.{live_said, motions_law, motions_come}
 use Rattle.dispatch_history.proofs.Turns.{AllApart, BodyApart, turns}
 
@@ -145,9 +146,9 @@ abbrev Bodies : List Body → Type 0
 Bodies [] = Unit {0}
 Bodies (b ∷ bs) = BodyApart b × Bodies bs
 
-shifted_apart : (o : Pixel) (ms : List Motion) → Lists ms → Bodies (shifted o ms)
-shifted_apart o [] a = tt
-shifted_apart o (m ∷ ms) a = (moved_apart o m.pointers a.0, shifted_apart o ms a.1)
+shifted_apart : (cover : ℕ → Cover) (o : Pixel) (ms : List Motion) → Lists ms → Bodies (sent_under cover o ms)
+shifted_apart cover o [] a = tt
+shifted_apart cover o (m ∷ ms) a = (moved_apart o m.pointers a.0, shifted_apart cover o ms a.1)
 
 keys_apart : (ks : List KeyMsg) → Bodies (map KeyBody ks)
 keys_apart [] = tt
@@ -188,15 +189,16 @@ stream_apart ds ((call, answer) ∷ h) w l r =
     e = step_of (snapshot (past_of es)) call answer (args_of call answer (inbound (past_of es)))
 
     said_apart : Bodies
-        (motions_said (scene ds es) e (mark (scene ds es) e) (origin (past_of es) w) w ++ keys_said ((call, answer) ∷ past_of es) (args_of call answer (inbound (past_of es))) es w
+        (motions_said (scene ds es) e (mark (scene ds es) e) (covered (mark (scene ds es) e ∷ marks es) w) (origin (past_of es) w) w ++ keys_said ((call, answer) ∷ past_of es) (args_of call answer (inbound (past_of es))) es w
         ++ focus_sent (has_focus (past_of es) w) (has_focus ((call, answer) ∷ past_of es) w))
     said_apart =
         let s = scene ds es in
-        let m = motions_said s e (mark s e) (origin (past_of es) w) w in
+        let cover = covered (mark s e ∷ marks es) w in
+        let m = motions_said s e (mark s e) cover (origin (past_of es) w) w in
         let k = keys_said ((call, answer) ∷ past_of es) (args_of call answer (inbound (past_of es))) es w in
         let f = focus_sent (has_focus (past_of es) w) (has_focus ((call, answer) ∷ past_of es) w) in
         let ms : Bodies m =
-        shifted_apart (origin (past_of es) w) (flat_map (sent_with s e (mark s e) w) devices)
+        shifted_apart cover (origin (past_of es) w) (flat_map (sent_with s e (mark s e) w) devices)
         (all_list (sent_with s e (mark s e) w)
         (λ d. sent_lists s e (mark s e) w d (step_facts ds call answer h d l r).rises (λ v. apart_rising (s.last v) (fit_law ds h v l.1 r.1).rises)) devices) in
         both_apart (m ++ k) f (both_apart m k ms (keys_apart _)) (focus_apart (has_focus (past_of es) w) (has_focus ((call, answer) ∷ past_of es) w))

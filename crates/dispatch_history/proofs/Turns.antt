@@ -8,7 +8,7 @@ use Rattle.input_types.specs.declared.motion.Motion.{Motion}
 use Rattle.input_types.specs.declared.motion.MotionAction.{MotionAction}
 use Rattle.input_types.specs.declared.motion.MotionAction.TheVariants.{Down, Up, Move, Cancel, Outside, PointerDown, PointerUp}
 use Rattle.input_types.specs.declared.pointer.Pointer.{Pointer}
-use Rattle.input_types.specs.Gestures.{after_motion, after_action, allowed, ids_of, same_ids}
+use Rattle.input_types.specs.Gestures.{after_sent, after_action, judged_flags, allowed, ids_of, same_ids}
 use Rattle.routing_rules.specs.Given.{changed}
 use Rattle.routing_rules.specs.Outgoing.{is_down}
 use Rattle.routing_rules.proofs.FitsLaws.{among, in_remove, stays_in}
@@ -148,17 +148,17 @@ pub turns : (d i : ℕ) (ms : List Message) (ids : List ℕ) → AllApart ms →
 turns d i [] ids a e = let same : [] ≡ ids = cc in ap (λ xs. Some (among i xs)) same
 turns d i (m ∷ past) ids a e = by_body m.body a.0 e (λ xs r. turns d i past xs a.1 r)
   where
-    came : (k : Motion) (o : Option (List ℕ)) → Apart k.pointers → (k.device == d) ≡ true → sent_down d past ≡ o → option_and_then (λ down. after_motion down k) o ≡ Some ids
+    came : (k : Motion) (o : Option (List ℕ)) → Apart k.pointers → (k.device == d) ≡ true → sent_down d past ≡ o → option_and_then (λ down. after_sent down k) o ≡ Some ids
         → ((xs : List ℕ) → sent_down d past ≡ Some xs → sent_pointer d i past ≡ Some (among i xs)) → pointer_after d i (MotionBody k) (sent_pointer d i past) ≡ Some (among i ids)
     came k None b q r e more = cc
     came k (Some before) b q r e more =
-        ap (pointer_after d i (MotionBody k)) (more before r) ∙ own_turn d i k (among i before) q ∙ one_turn k.action k.pointers k.index k.flags i before ids b e
+        ap (pointer_after d i (MotionBody k)) (more before r) ∙ own_turn d i k (among i before) q ∙ one_turn k.action k.pointers k.index (judged_flags k.action k.flags) i before ids b e
 
     by_body : (b : Body) → BodyApart b → ids_after d b (sent_down d past) ≡ Some ids
         → ((xs : List ℕ) → sent_down d past ≡ Some xs → sent_pointer d i past ≡ Some (among i xs)) → pointer_after d i b (sent_pointer d i past) ≡ Some (among i ids)
     by_body (MotionBody k) b e more = by_device (k.device == d) refl e
       where
-        by_device : (t : Bool) → (k.device == d) ≡ t → cond t (option_and_then (λ down. after_motion down k) (sent_down d past)) (sent_down d past) ≡ Some ids
+        by_device : (t : Bool) → (k.device == d) ≡ t → cond t (option_and_then (λ down. after_sent down k) (sent_down d past)) (sent_down d past) ≡ Some ids
             → pointer_after d i (MotionBody k) (sent_pointer d i past) ≡ Some (among i ids)
         by_device true q e = came k (sent_down d past) b q refl e more
         by_device false q e = other_turn d i k (sent_pointer d i past) q ∙ more ids e

@@ -5,7 +5,7 @@ use Rattle.input_types.specs.declared.message.Args.TheVariants.{Motion as Motion
 use Rattle.input_types.specs.declared.message.Body.{Body}
 use Rattle.input_types.specs.declared.message.Body.TheVariants.{Motion as MotionBody, Focus as FocusBody}
 use Rattle.input_types.specs.DeviceRule.{device_state, nothing_down}
-use Rattle.input_types.specs.Gestures.{after_motion, allowed, differ}
+use Rattle.input_types.specs.Gestures.{after_sent, allowed, differ}
 use Rattle.input_types.specs.declared.message.Message.{Message}
 use Rattle.input_types.specs.declared.pointer.Pointer.{Pointer}
 use Rattle.routing_rules.specs.Marks.{Mark}
@@ -76,7 +76,7 @@ is_key_down es d s = (unwrap_or (device_state d (dispatched es)) nothing_down).k
 
 -- how a message changes the ids of a device that are known to be down; None unless it may come
 abbrev pub ids_after : ℕ → Body → Option (List ℕ) → Option (List ℕ)
-ids_after d (MotionBody m) ids = if m.device == d then option_and_then (λ down. after_motion down m) ids else ids
+ids_after d (MotionBody m) ids = if m.device == d then option_and_then (λ down. after_sent down m) ids else ids
 ids_after d body ids = ids
 
 -- the ids of a device that the owner of a channel knows to be down after its messages; None unless each of its

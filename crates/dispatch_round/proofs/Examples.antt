@@ -4,7 +4,9 @@ use Rattle.input_types.specs.declared.message.Body.TheVariants.{Motion as Motion
 use Rattle.input_types.specs.declared.motion.Motion.{Motion}
 use Rattle.input_types.specs.declared.motion.MotionAction.TheVariants.{Move}
 use Rattle.input_types.specs.declared.pointer.Pointer.{Pointer}
+use Rattle.routing_rules.specs.Cover.{with_flags}
 use Rattle.touch_state.specs.Touches.{Touches}
+use Rattle.window_covers.specs.Covers.{CoverTable}
 use Rattle.dispatch_round.specs.Light.{held_by, moved, most_moves}
 
 -- window 1 holds the ids 0 and 2 of device 1, window 2 holds nothing, and window 3 id 1
@@ -18,16 +20,26 @@ at i = record { id = i; at = record { x = pos 10; y = pos 20 } }
 abbrev move : List Pointer → Motion
 move ps = record { device = 1; action = Move; index = 0; flags = 0; pointers = ps }
 
-its_own : moved touches (move (at 0 ∷ at 1 ∷ at 2 ∷ [])) 1 ≡ MotionBody (move (at 0 ∷ at 2 ∷ [])) ∷ []
+-- nothing lies over any window, and window 1 is obscured on device 1
+abbrev clear_table : CoverTable
+clear_table = record { obscured = []; partly = [] }
+
+abbrev over_one : CoverTable
+over_one = record { obscured = 1 ∷ []; partly = [] }
+
+its_own : moved clear_table touches (move (at 0 ∷ at 1 ∷ at 2 ∷ [])) 1 ≡ MotionBody (move (at 0 ∷ at 2 ∷ [])) ∷ []
 its_own = refl
 
-one_of_three : moved touches (move (at 0 ∷ at 1 ∷ at 2 ∷ [])) 3 ≡ MotionBody (move (at 1 ∷ [])) ∷ []
+its_own_obscured : moved over_one touches (move (at 0 ∷ at 1 ∷ at 2 ∷ [])) 1 ≡ MotionBody (with_flags 1 (move (at 0 ∷ at 2 ∷ []))) ∷ []
+its_own_obscured = refl
+
+one_of_three : moved clear_table touches (move (at 0 ∷ at 1 ∷ at 2 ∷ [])) 3 ≡ MotionBody (move (at 1 ∷ [])) ∷ []
 one_of_three = refl
 
-nothing_held : moved touches (move (at 0 ∷ at 1 ∷ at 2 ∷ [])) 2 ≡ []
+nothing_held : moved clear_table touches (move (at 0 ∷ at 1 ∷ at 2 ∷ [])) 2 ≡ []
 nothing_held = refl
 
-nothing_listed : moved touches (move (at 0 ∷ at 2 ∷ [])) 3 ≡ []
+nothing_listed : moved clear_table touches (move (at 0 ∷ at 2 ∷ [])) 3 ≡ []
 nothing_listed = refl
 
 holds_some : held_by touches (Some (move (at 1 ∷ []))) 1 ≡ true

@@ -6,7 +6,7 @@ use Rattle.std.proofs.lemmas.List.{length-map}
 use Rattle.bits32.specs.Set.{is_in}
 use Rattle.input_types.specs.declared.key.KeyMsg.{KeyMsg}
 use Rattle.input_types.specs.declared.message.Body.{Body}
-use Rattle.input_types.specs.declared.message.Body.TheVariants.{Motion as MotionBody, Key}
+use Rattle.input_types.specs.declared.message.Body.TheVariants.{Key}
 use Rattle.input_types.specs.declared.motion.Motion.{Motion}
 use Rattle.window_snapshot.specs.Mask.{mask_has}
 use Rattle.routing_rules.specs.Scene.{Scene, Moves}
@@ -26,10 +26,11 @@ use Rattle.key_tables.specs.Held.{bodies_tracked}
 use Rattle.dispatch_channels.specs.Table.{Table, channel_of, input_of}
 use Rattle.dispatch_round.specs.declared.round.Round.{Round}
 use Rattle.dispatch_round.specs.declared.listener.Listener.{Listener}
-use Rattle.dispatch_round.specs.Bodies.{keys_to, bodies_of}
+use Rattle.dispatch_round.specs.Bodies.{told, keys_to, bodies_of}
 use Rattle.dispatch_round.specs.Rounds.{IsStepIn, may_take, most_motions, most_bodies}
 use Rattle.dispatch_round.specs.Saying.{CanHear, SendsOne, motions_by, losses, pilfered_from, HearsMotions, HearsRound, Spends}
 use Rattle.dispatch_round.proofs.Saying.{sends_none, sends_then, hears_after, heard-spare}
+use Rattle.dispatch_round.proofs.Telling.{told-length, told_keys}
 use Rattle.dispatch_round.proofs.Cancelling.{found_few, all_losses_few, pilfered_few}
 use Rattle.dispatch_round.proofs.Ruling.{found_all, lost_all, pilfered_all, none_all}
 
@@ -45,7 +46,7 @@ pub hears_found : (r : Round) (us : List Touches) (to : Listener) (t u : Table) 
     → ((i : ℕ) → after s (mark s (Moves m)) to.window m.device i ≡ holds_at us to.window m.device i)
     → IsListed s m.device → watches ≡ is_watching s m (changed m) to.window
     → IsSent x (outgoing s (Moves m) to.window m.device) m.device (s.last m.device) (s.holds to.window m.device))
-    → SendsOne to (map MotionBody (motions_by x m.device (pointers_of (input_of t to.window) m.device))) t u
+    → SendsOne to (told to.covers.now to.window (motions_by x m.device (pointers_of (input_of t to.window) m.device))) t u
     → HearsMotions r us lost to t u
 hears_found r us to t u m x before watches lost opt low high seen ids found says = record {
   motions = motions_by x m.device (pointers_of (input_of t to.window) m.device);
@@ -69,7 +70,7 @@ hears_found r us to t u m x before watches lost opt low high seen ids found says
 -- at another step what is taken
 pub hears_lost : (r : Round) (us : List Touches) (to : Listener) (t u : Table) (lost : Option (List ℕ))
     → option_copied r.motion ≡ None → may_take r.mark ≡ true
-    → SendsOne to (map MotionBody (flat_map (losses us to.window (input_of t to.window)) devices)) t u
+    → SendsOne to (told to.covers.now to.window (flat_map (losses us to.window (input_of t to.window)) devices)) t u
     → HearsMotions r us lost to t u
 hears_lost r us to t u lost opt takes says = record {
   motions = flat_map (losses us to.window (input_of t to.window)) devices;
@@ -83,7 +84,7 @@ hears_lost r us to t u lost opt takes says = record {
 -- and what a window loses to one that pilfers
 pub hears_pilfered : (r : Round) (us : List Touches) (to : Listener) (t u : Table) (o : Option (List ℕ)) (lost : List ℕ)
     → option_copied r.motion ≡ None → o ≡ Some lost
-    → SendsOne to (map MotionBody (pilfered_from r.mark lost to.window (input_of t to.window))) t u
+    → SendsOne to (told to.covers.now to.window (pilfered_from r.mark lost to.window (input_of t to.window))) t u
     → HearsMotions r us o to t u
 hears_pilfered r us to t u o lost opt some says = record {
   motions = pilfered_from r.mark lost to.window (input_of t to.window);
@@ -110,10 +111,10 @@ pub room_for_keys : (r : Round) (us : List Touches) (o : Option (List ℕ)) (to 
     → CanHear to.window (most_bodies r to.window (input_of t to.window)) t
     → CanHear to.window (length keys + length (change_sent (change_of r.lost r.gained to.window))) u
 room_for_keys r us o to t u keys h is can =
-    let size : length (map MotionBody h.motions) ≡ length h.motions = length-map h.motions MotionBody in
+    let size : length (told to.covers.now to.window h.motions) ≡ length h.motions = told-length to.covers.now to.window h.motions in
     let few = h.few in
     let many : length keys ≡ length (keys_to r.target r.keys.now to.window) = ap length is in
-    hears_after to (map MotionBody h.motions) _ _ t u h.outgoing can (omega (arith, size, few, many))
+    hears_after to (told to.covers.now to.window h.motions) _ _ t u h.outgoing can (omega (arith, size, few, many))
 
 pub room_for_change : (r : Round) (to : Listener) (t u : Table) (keys : List KeyMsg) (change : Option Bool)
     → SendsOne to (map Key keys) t u → change ≡ change_of r.lost r.gained to.window
@@ -124,11 +125,7 @@ room_for_change r to t u keys change h is can =
     let many : length (change_sent change) ≡ length (change_sent (change_of r.lost r.gained to.window)) = ap (λ x. length (change_sent x)) is in
     hears_after to (map Key keys) _ _ t u h can (omega (arith, size, many))
 
--- motions and a change of the focus leave the keys
-motions_leave : (ms : List Motion) (bs : List Body) (held : List KeyMsg) → bodies_tracked (map MotionBody ms ++ bs) held ≡ bodies_tracked bs held
-motions_leave [] bs held = refl
-motions_leave (m ∷ ms) bs held = motions_leave ms bs held
-
+-- a change of the focus leaves the keys
 change_leaves : (bs : List Body) (change : Option Bool) (held : List KeyMsg)
     → bodies_tracked (bs ++ change_sent change) held ≡ bodies_tracked bs held
 change_leaves [] None held = refl
@@ -137,15 +134,15 @@ change_leaves (b ∷ bs) change held = change_leaves bs change (keys_then b held
 
 -- what is sent takes no more of the room than the most that may be sent
 round_spends : (r : Round) (us : List Touches) (o : Option (List ℕ)) (to : Listener) (t u x : Table) (keys : List KeyMsg) (change : Option Bool)
-    → (h : HearsMotions r us o to t u) → SendsOne to (bodies_of h.motions keys change) t x
+    → (h : HearsMotions r us o to t u) → SendsOne to (bodies_of to.covers.now to.window h.motions keys change) t x
     → keys ≡ keys_to r.target r.keys.now to.window → change ≡ change_of r.lost r.gained to.window
     → Spends r to.window t x
 round_spends r us o to t u x keys change h outgoing k c =
-    let bodies = bodies_of h.motions keys change in
-    let motions : length (map MotionBody h.motions) ≡ length h.motions = length-map h.motions MotionBody in
+    let bodies = bodies_of to.covers.now to.window h.motions keys change in
+    let motions : length (told to.covers.now to.window h.motions) ≡ length h.motions = told-length to.covers.now to.window h.motions in
     let many : length (map Key keys) ≡ length keys = length-map keys Key in
-    let both = map MotionBody h.motions ++ map Key keys in
-    let rest : length both ≡ length (map MotionBody h.motions) + length (map Key keys) = length-append (map MotionBody h.motions) (map Key keys) in
+    let both = told to.covers.now to.window h.motions ++ map Key keys in
+    let rest : length both ≡ length (told to.covers.now to.window h.motions) + length (map Key keys) = length-append (told to.covers.now to.window h.motions) (map Key keys) in
     let size : length bodies ≡ length both + length (change_sent change) = length-append both (change_sent change) in
     let as_keys : length keys ≡ length (keys_to r.target r.keys.now to.window) = ap length k in
     let as_change : length (change_sent change) ≡ length (change_sent (change_of r.lost r.gained to.window)) = ap (λ x. length (change_sent x)) c in
@@ -158,7 +155,7 @@ round_spends r us o to t u x keys change h outgoing k c =
       keys_are =
           outgoing.tracks.keys_are
           ∙ change_leaves both change (input_of t to.window).keys
-          ∙ motions_leave h.motions (map Key keys) (input_of t to.window).keys
+          ∙ told_keys to.covers.now to.window h.motions (map Key keys) (input_of t to.window).keys
           ∙ ap (λ ks. bodies_tracked (map Key ks) (input_of t to.window).keys) k;
     }
 
@@ -168,11 +165,11 @@ pub hears_round : (r : Round) (us : List Touches) (o : Option (List ℕ)) (to : 
     → keys ≡ keys_to r.target r.keys.now to.window → change ≡ change_of r.lost r.gained to.window
     → HearsRound r us o to t x
 hears_round r us o to t u v x keys change h p q k c = record {
-  bodies = bodies_of h.motions keys change;
+  bodies = bodies_of to.covers.now to.window h.motions keys change;
   outgoing = all;
   spends = round_spends r us o to t u x keys change h all k c;
-  by_rules = λ s e ts by round holds i. bodies_of (h.by_rules s e ts by round holds i) (k i) (c i);
+  by_rules = λ s e ts by round holds i. bodies_of to.covers.now to.window (h.by_rules s e ts by round holds i) (k i) (c i);
 }
   where
-    all : SendsOne to (bodies_of h.motions keys change) t x
-    all = sends_then to _ (change_sent change) t v x (sends_then to (map MotionBody h.motions) (map Key keys) t u v h.outgoing p) q
+    all : SendsOne to (bodies_of to.covers.now to.window h.motions keys change) t x
+    all = sends_then to _ (change_sent change) t v x (sends_then to (told to.covers.now to.window h.motions) (map Key keys) t u v h.outgoing p) q

@@ -1,4 +1,5 @@
 pub mod Saying
+pub mod Telling
 pub mod Cancelling
 pub mod Ruling
 pub mod Stepping

@@ -6,7 +6,7 @@ use Rattle.std.specs.Option.{option_copied}
 use Rattle.std.proofs.lemmas.Bool.{cases_eq, eq-eqb, and_parts}
 use Rattle.std.proofs.lemmas.List.{length-map}
 use Rattle.input_types.specs.declared.key.KeyMsg.{KeyMsg}
-use Rattle.input_types.specs.declared.message.Body.TheVariants.{Motion as MotionBody, Key}
+use Rattle.input_types.specs.declared.message.Body.TheVariants.{Key}
 use Rattle.input_types.specs.declared.motion.Motion.{Motion}
 use Rattle.input_types.specs.declared.motion.MotionAction.TheVariants.{Move}
 use Rattle.window_snapshot.specs.Mask.{mask_has, mask_with}
@@ -28,7 +28,7 @@ use Rattle.dispatch_channels.proofs.Moved.{reached}
 use Rattle.dispatch_channels.proofs.Picking.{channel_low}
 use Rattle.dispatch_round.specs.declared.round.Round.{Round}
 use Rattle.dispatch_round.specs.declared.listener.Listener.{Listener}
-use Rattle.dispatch_round.specs.Bodies.{keys_to, motions_of}
+use Rattle.dispatch_round.specs.Bodies.{told, keys_to, motions_of}
 use Rattle.dispatch_round.specs.Rounds.{IsStepIn, IsRound, may_take, may_hear, keyed, most_motions, is_concerned, IsLeft}
 use Rattle.dispatch_round.specs.Saying.{CanHear, SendsOne, HearsRound}
 use Rattle.dispatch_round.specs.Light.{IsLight, held_by, moved, most_moves, most_light, HasLight, HearsMoves, SpendsLight}
@@ -36,6 +36,7 @@ use Rattle.key_tables.specs.Focused.{change_of}
 use Rattle.key_tables.specs.Held.{bodies_tracked}
 use Rattle.input_channel.specs.State.{published_at}
 use Rattle.dispatch_round.proofs.Saying.{sends_none, hears_after, heard-spare}
+use Rattle.dispatch_round.proofs.Telling.{told-length}
 use Rattle.dispatch_round.proofs.Hearing.{hears_round}
 use Rattle.dispatch_round.proofs.Reaching.{reached_other}
 use Rattle.dispatch_round.proofs.MoveLaws.{still_moves, few_moves}
@@ -90,7 +91,7 @@ light_concerned r ts w light =
 -- ---- a window is sent
 
 pub hears_moved : (m : Motion) (r : Round) (us : List Touches) (to : Listener) (t u : Table) → IsLight r → option_copied r.motion ≡ Some m
-    → 1 ≤ m.device → m.device ≤ 8 → SendsOne to (moved us m to.window) t u → HearsMoves r us to t u
+    → 1 ≤ m.device → m.device ≤ 8 → SendsOne to (moved to.covers.now us m to.window) t u → HearsMoves r us to t u
 hears_moved m r us to t u light opt low high says = record {
   hears =
       record {
@@ -157,10 +158,10 @@ pub room_for_light : (r : Round) (us : List Touches) (to : Listener) (t u : Tabl
     → HearsMoves r us to t u → keys ≡ keys_to r.target r.keys.now to.window → CanHear to.window (most_light r to.window) t
     → CanHear to.window (length keys) u
 room_for_light r us to t u keys h is can =
-    let size : length (map MotionBody h.hears.motions) ≡ length h.hears.motions = length-map h.hears.motions MotionBody in
+    let size : length (told to.covers.now to.window h.hears.motions) ≡ length h.hears.motions = told-length to.covers.now to.window h.hears.motions in
     let few = h.few in
     let many : length keys ≡ length (keys_to r.target r.keys.now to.window) = ap length is in
-    hears_after to (map MotionBody h.hears.motions) _ _ t u h.hears.outgoing can (omega (arith, size, few, many))
+    hears_after to (told to.covers.now to.window h.hears.motions) _ _ t u h.hears.outgoing can (omega (arith, size, few, many))
 
 -- it is sent all of the round
 pub hears_light : (r : Round) (us : List Touches) (to : Listener) (t u v : Table) (keys : List KeyMsg) → IsLight r
@@ -170,21 +171,21 @@ hears_light r us to t u v keys light h p is =
     hears_round r us None to t u v v keys None h.hears p (sends_none to v) is (sym (no_change r.lost r.gained to.window light.lost_is light.gained_is))
 
 -- and that spends no more than the most
-motions_leave : (ms : List Motion) (keys : List KeyMsg) → bodies_tracked (map MotionBody ms) keys ≡ keys
-motions_leave [] keys = refl
-motions_leave (m ∷ ms) keys = motions_leave ms keys
+motions_leave : (to : Listener) (ms : List Motion) (keys : List KeyMsg) → bodies_tracked (told to.covers.now to.window ms) keys ≡ keys
+motions_leave to [] keys = refl
+motions_leave to (m ∷ ms) keys = motions_leave to ms keys
 
 pub spends_light : (r : Round) (us : List Touches) (to : Listener) (t u v : Table) (keys : List KeyMsg)
     → HearsMoves r us to t u → SendsOne to (map Key keys) u v → keys ≡ keys_to r.target r.keys.now to.window
     → SpendsLight r t v to.window
 spends_light r us to t u v keys h p is =
     let ms : List Motion = h.hears.motions in
-    let motions : length (map MotionBody ms) ≡ length ms = length-map ms MotionBody in
+    let motions : length (told to.covers.now to.window ms) ≡ length ms = told-length to.covers.now to.window ms in
     let many : length (map Key keys) ≡ length keys = length-map keys Key in
     let as_keys : length keys ≡ length (keys_to r.target r.keys.now to.window) = ap length is in
     let few = h.few in
-    let first : (channel_of u to.window).spare ≡ (channel_of t to.window).spare - length (map MotionBody ms) =
-    ap (λ s. s.spare) h.hears.outgoing.channel_is ∙ heard-spare (map MotionBody ms) to.origin to.clock (channel_of t to.window) in
+    let first : (channel_of u to.window).spare ≡ (channel_of t to.window).spare - length (told to.covers.now to.window ms) =
+    ap (λ s. s.spare) h.hears.outgoing.channel_is ∙ heard-spare (told to.covers.now to.window ms) to.origin to.clock (channel_of t to.window) in
     let last : (channel_of v to.window).spare ≡ (channel_of u to.window).spare - length (map Key keys) =
     ap (λ s. s.spare) p.channel_is ∙ heard-spare (map Key keys) to.origin to.clock (channel_of u to.window) in
     record {
@@ -193,7 +194,7 @@ spends_light r us to t u v keys h p is =
       keys_are =
           p.tracks.keys_are
           ∙ ap₂ (λ (ks held : List KeyMsg). bodies_tracked (map Key ks) held) is
-          (h.hears.outgoing.tracks.keys_are ∙ motions_leave ms (input_of t to.window).keys);
+          (h.hears.outgoing.tracks.keys_are ∙ motions_leave to ms (input_of t to.window).keys);
     }
 
 -- ---- one window after another

@@ -17,7 +17,9 @@ use Rattle.dispatch_channels.specs.Table.{Table, channel_of, input_of}
 use Rattle.dispatch_channels.specs.Changes.{Publishes}
 use Rattle.dispatch_channels.proofs.Picking.{channel_low, has-without, mask_has-and}
 use Rattle.dispatch_channels.proofs.Moved.{reached, all_reached}
+use Rattle.window_covers.specs.Covers.{CoverTable}
 use Rattle.dispatch_round.specs.declared.round.Round.{Round}
+use Rattle.dispatch_round.specs.declared.listener.Listener.{Listener}
 use Rattle.key_tables.specs.Held.{bodies_tracked}
 use Rattle.dispatch_round.specs.Bodies.{TracksAll, keys_to}
 use Rattle.dispatch_round.specs.Rounds.{IsRound, HoldsPointers, AllHoldPointers, is_concerned, sent_in, most_bodies, IsLeft}
@@ -56,10 +58,10 @@ both_reached a b rest w none p q =
     ap (λ n. reached (bit_and a b) n w) none ∙ all_reached (bit_and a b) w ∙ mask_has-and a b w ∙ ap₂ (λ x y. x && y) p q
 
 -- a channel is told what is said in the round in a scene
-abbrev pub IsSentAt : Round → List Pixel → ℕ → (t v : Table) → Scene → Step → ℕ → Type 0
-IsSentAt r origins clock t v s e c =
-    (channel_of v c ≡ heard (sent_in r s e c) (origin_at origins c) clock (channel_of t c))
-    × TracksAll (input_of t c) (input_of v c) (sent_in r s e c)
+abbrev pub IsSentAt : CoverTable → Round → List Pixel → ℕ → (t v : Table) → Scene → Step → ℕ → Type 0
+IsSentAt covers r origins clock t v s e c =
+    (channel_of v c ≡ heard (sent_in covers r s e c) (origin_at origins c) clock (channel_of t c))
+    × TracksAll (input_of t c) (input_of v c) (sent_in covers r s e c)
 
 -- a channel that stays as it is afterwards has spent as much, and one that was as it is before too
 same_spends : (r : Round) (c : ℕ) (t u v : Table) → channel_of v c ≡ channel_of u c → input_of v c ≡ input_of u c → Spends r c t u → Spends r c t v
@@ -78,40 +80,41 @@ spends_from r c t u v e f h = record {
 }
 
 -- it is sent
-pub each_next : (r : Round) (ts : List Touches) (o' : Option (List ℕ)) (mask rest k : ℕ) (o : Pixel) (origins : List Pixel) (clock : ℕ) (t u v : Table)
-    → mask_has rest k ≡ true → mask_has mask k ≡ true → mask_has t.live k ≡ true → o ≡ origin_at origins k
-    → HearsEach r ts o' (reached mask rest) origins clock t u
-    → HearsRound r ts o' (record { window = k; origin = o; clock = clock }) u v
-    → HearsEach r ts o' (reached mask (mask_less rest (mask_with 0 k))) origins clock t v
-each_next r ts o' mask rest k o origins clock t u v e is live from_origin p q =
+pub each_next : (r : Round) (ts : List Touches) (o : Option (List ℕ)) (mask rest : ℕ) (to : Listener) (origins : List Pixel) (t u v : Table)
+    → mask_has rest to.window ≡ true → mask_has mask to.window ≡ true → mask_has t.live to.window ≡ true
+    → to.origin ≡ origin_at origins to.window
+    → HearsEach to.covers.now r ts o (reached mask rest) origins to.clock t u
+    → HearsRound r ts o to u v
+    → HearsEach to.covers.now r ts o (reached mask (mask_less rest (mask_with 0 to.window))) origins to.clock t v
+each_next r ts o mask rest to origins t u v e is live from_origin p q =
     record {
-      outgoing = λ s f before by h holds c hear. elim (cases_eq c k) [
-        | inl same ↦ subst (IsSentAt r origins clock t v s f) (sym same) (here s f before by h holds)
-        | inr ne ↦ there s f before by h holds c ne (sym (reached_other mask rest k c e ne) ∙ hear)
+      outgoing = λ s f before by h holds c hear. elim (cases_eq c to.window) [
+        | inl same ↦ subst (IsSentAt to.covers.now r origins to.clock t v s f) (sym same) (here s f before by h holds)
+        | inr ne ↦ there s f before by h holds c ne (sym (reached_other mask rest to.window c e ne) ∙ hear)
       ];
-      stays = λ c from no. elim (cases_eq c k) [
-        | inl same ↦ absurd (both_ways (reached mask (mask_less rest (mask_with 0 k)) c) no
-            (ap (reached mask (mask_less rest (mask_with 0 k))) same ∙ reached_next mask rest k is e))
+      stays = λ c from no. elim (cases_eq c to.window) [
+        | inl same ↦ absurd (both_ways (reached mask (mask_less rest (mask_with 0 to.window)) c) no
+            (ap (reached mask (mask_less rest (mask_with 0 to.window))) same ∙ reached_next mask rest to.window is e))
         | inr ne ↦
-            let before = p.stays c from (sym (reached_other mask rest k c e ne) ∙ no) in
+            let before = p.stays c from (sym (reached_other mask rest to.window c e ne) ∙ no) in
             ((q.outgoing.others c from ne).0 ∙ before.0, (q.outgoing.others c from ne).1 ∙ before.1)
       ];
-      spends = λ c hear. elim (cases_eq c k) [
+      spends = λ c hear. elim (cases_eq c to.window) [
         | inl same ↦ subst (λ n. Spends r n t v) (sym same) spent
         | inr ne ↦
-            let from : 1 ≤ c = channel_low mask c (and_parts (mask_has mask c) (not (mask_has (mask_less rest (mask_with 0 k)) c)) hear).0 in
-            let was = p.spends c (sym (reached_other mask rest k c e ne) ∙ hear) in
+            let from : 1 ≤ c = channel_low mask c (and_parts (mask_has mask c) (not (mask_has (mask_less rest (mask_with 0 to.window)) c)) hear).0 in
+            let was = p.spends c (sym (reached_other mask rest to.window c e ne) ∙ hear) in
             let other = q.outgoing.others c from ne in
             same_spends r c t u v other.0 other.1 was
       ];
-      unfinished_is = λ c from. elim (cases_eq c k) [
+      unfinished_is = λ c from. elim (cases_eq c to.window) [
         | inl same ↦ subst (λ n. (channel_of v n).unfinished ≡ (channel_of t n).unfinished) (sym same)
-            (ap (λ s. s.unfinished) q.outgoing.channel_is ∙ heard-unfinished q.bodies o clock (channel_of u k) ∙ p.unfinished_is k low)
+            (ap (λ s. s.unfinished) q.outgoing.channel_is ∙ heard-unfinished q.bodies to.origin to.clock (channel_of u to.window) ∙ p.unfinished_is to.window low)
         | inr ne ↦ ap (λ s. s.unfinished) (q.outgoing.others c from ne).0 ∙ p.unfinished_is c from
       ];
-      gone_is = λ c from. elim (cases_eq c k) [
+      gone_is = λ c from. elim (cases_eq c to.window) [
         | inl same ↦ subst (λ n. (channel_of v n).gone ≡ (channel_of t n).gone) (sym same)
-            (ap (λ s. s.gone) q.outgoing.channel_is ∙ heard-gone q.bodies o clock (channel_of u k) ∙ p.gone_is k low)
+            (ap (λ s. s.gone) q.outgoing.channel_is ∙ heard-gone q.bodies to.origin to.clock (channel_of u to.window) ∙ p.gone_is to.window low)
         | inr ne ↦ ap (λ s. s.gone) (q.outgoing.others c from ne).0 ∙ p.gone_is c from
       ];
       as_many = q.outgoing.as_many ∙ p.as_many;
@@ -120,38 +123,38 @@ each_next r ts o' mask rest k o origins clock t u v e is live from_origin p q =
       anrs_are = q.outgoing.anrs_are ∙ p.anrs_are;
     }
   where
-    low : 1 ≤ k
-    low = channel_low rest k e
+    low : 1 ≤ to.window
+    low = channel_low rest to.window e
 
-    still : (channel_of u k ≡ channel_of t k) × (input_of u k ≡ input_of t k)
-    still = p.stays k low (not_reached mask rest k e)
+    still : (channel_of u to.window ≡ channel_of t to.window) × (input_of u to.window ≡ input_of t to.window)
+    still = p.stays to.window low (not_reached mask rest to.window e)
 
-    spent : Spends r k t v
-    spent = spends_from r k t u v still.0 still.1 q.spends
+    spent : Spends r to.window t v
+    spent = spends_from r to.window t u v still.0 still.1 q.spends
 
-    here : (s : Scene) (f : Step) (before : List Touches) → IsChanged before ts r.mark o' → IsRound s f before r → AllHoldPointers s t → IsSentAt r origins clock t v s f k
+    here : (s : Scene) (f : Step) (before : List Touches) → IsChanged before ts r.mark o → IsRound s f before r → AllHoldPointers s t → IsSentAt to.covers.now r origins to.clock t v s f to.window
     here s f before by h holds =
-        let says : q.bodies ≡ sent_in r s f k = q.by_rules s f before by h (subst (HoldsPointers s k) (sym still.1) (holds k live)) in (
+        let says : q.bodies ≡ sent_in to.covers.now r s f to.window = q.by_rules s f before by h (subst (HoldsPointers s to.window) (sym still.1) (holds to.window live)) in (
           q.outgoing.channel_is
-              ∙ ap (λ bs. heard bs o clock (channel_of u k)) says
-              ∙ ap₂ (λ x y. heard (sent_in r s f k) x clock y) from_origin still.0,
-          subst (λ (i : Tracked). TracksAll i (input_of v k) (sent_in r s f k)) still.1
-              (subst (λ (bs : List Body). TracksAll (input_of u k) (input_of v k) bs) says q.outgoing.tracks),
+              ∙ ap (λ bs. heard bs to.origin to.clock (channel_of u to.window)) says
+              ∙ ap₂ (λ x y. heard (sent_in to.covers.now r s f to.window) x to.clock y) from_origin still.0,
+          subst (λ (i : Tracked). TracksAll i (input_of v to.window) (sent_in to.covers.now r s f to.window)) still.1
+              (subst (λ (bs : List Body). TracksAll (input_of u to.window) (input_of v to.window) bs) says q.outgoing.tracks),
         )
 
-    there : (s : Scene) (f : Step) (before : List Touches) → IsChanged before ts r.mark o' → IsRound s f before r → AllHoldPointers s t → (c : ℕ) → c ≢ k → reached mask rest c ≡ true → IsSentAt r origins clock t v s f c
+    there : (s : Scene) (f : Step) (before : List Touches) → IsChanged before ts r.mark o → IsRound s f before r → AllHoldPointers s t → (c : ℕ) → c ≢ to.window → reached mask rest c ≡ true → IsSentAt to.covers.now r origins to.clock t v s f c
     there s f before by h holds c ne hear =
         let from : 1 ≤ c = channel_low mask c (and_parts (mask_has mask c) (not (mask_has rest c)) hear).0 in
         let was = p.outgoing s f before by h holds c hear in
         let other = q.outgoing.others c from ne in (
           other.0 ∙ was.0,
-          subst (λ (i : Tracked). TracksAll (input_of t c) i (sent_in r s f c)) (sym other.1) was.1,
+          subst (λ (i : Tracked). TracksAll (input_of t c) i (sent_in to.covers.now r s f c)) (sym other.1) was.1,
         )
 
 -- all were sent
-pub each_last : (r : Round) (ts : List Touches) (o : Option (List ℕ)) (mask rest : ℕ) (origins : List Pixel) (clock : ℕ) (t u : Table)
-    → rest ≡ 0 → HearsEach r ts o (reached mask rest) origins clock t u → HearsEach r ts o (mask_has mask) origins clock t u
-each_last r ts o mask rest origins clock t u none p =
+pub each_last : (covers : CoverTable) (r : Round) (ts : List Touches) (o : Option (List ℕ)) (mask rest : ℕ) (origins : List Pixel) (clock : ℕ) (t u : Table)
+    → rest ≡ 0 → HearsEach covers r ts o (reached mask rest) origins clock t u → HearsEach covers r ts o (mask_has mask) origins clock t u
+each_last covers r ts o mask rest origins clock t u none p =
     let all : (c : ℕ) → reached mask rest c ≡ mask_has mask c = λ c. ap (λ n. reached mask n c) none ∙ all_reached mask c in
     record {
       outgoing = λ s e before by h holds c hear. p.outgoing s e before by h holds c (all c ∙ hear);
@@ -175,11 +178,11 @@ leaves b l x y e = ap (λ a. cond (a && l) x y) e
 only_first : (a l : Bool) → (a && l) ≡ false → l ≡ true → a ≡ false
 only_first a l none live = sym (and_true_right a) ∙ ap (λ x. a && x) (sym live) ∙ none
 
-pub sends_all : (s : Scene) (e : Step) (r : Round) (ts us : List Touches) (o : Option (List ℕ)) (mask : ℕ) (origins : List Pixel) (clock : ℕ) (t u v : Table)
+pub sends_all : (covers : CoverTable) (s : Scene) (e : Step) (r : Round) (ts us : List Touches) (o : Option (List ℕ)) (mask : ℕ) (origins : List Pixel) (clock : ℕ) (t u v : Table)
     → IsWhole r.mark → ((w : ℕ) → mask_has mask w ≡ (is_concerned ts r w && mask_has t.live w))
-    → HearsEach r us o (mask_has mask) origins clock t u → Publishes mask clock u v → IsChanged ts us r.mark o → IsRound s e ts r → AllHoldPointers s t
-    → SendsAll mask (sent_in r s e) origins clock t v
-sends_all s e r ts us o mask origins clock t u v whole is p q by h holds =
+    → HearsEach covers r us o (mask_has mask) origins clock t u → Publishes mask clock u v → IsChanged ts us r.mark o → IsRound s e ts r → AllHoldPointers s t
+    → SendsAll mask (sent_in covers r s e) origins clock t v
+sends_all covers s e r ts us o mask origins clock t u v whole is p q by h holds =
     let lives : (c : ℕ) → mask_has mask c ≡ true → mask_has t.live c ≡ true =
     λ c has. (and_parts (is_concerned ts r c) (mask_has t.live c) (sym (is c) ∙ has)).1 in
     record {
@@ -189,14 +192,14 @@ sends_all s e r ts us o mask origins clock t u v whole is p q by h holds =
           ∙ publishes (mask_has mask c) (mask_has u.live c) _ _ has (ap (λ m. mask_has m c) p.live_is ∙ lives c has)
           ∙ ap (published_at clock) (p.outgoing s e ts by h holds c has).0;
       tracks = λ c has.
-          subst (λ (i : Tracked). TracksAll (input_of t c) i (sent_in r s e c)) (sym (ap (λ is. input_of (record u { inputs = is }) c) q.inputs_are))
+          subst (λ (i : Tracked). TracksAll (input_of t c) i (sent_in covers r s e c)) (sym (ap (λ is. input_of (record u { inputs = is }) c) q.inputs_are))
           (p.outgoing s e ts by h holds c has).1;
       stays = λ c from no. (
         q.channels_are c from ∙ leaves (mask_has mask c) (mask_has u.live c) _ _ no ∙ (p.stays c from no).0,
         ap (λ is. input_of (record u { inputs = is }) c) q.inputs_are ∙ (p.stays c from no).1,
       );
       quiet = λ c no live.
-          quiet_sent s e ts r c h whole (mask_has_channel t.live c live)
+          quiet_sent covers s e ts r c h whole (mask_has_channel t.live c live)
           (only_first (is_concerned ts r c) (mask_has t.live c) (sym (is c) ∙ no) live);
       as_many = q.as_many ∙ p.as_many;
       live_is = q.live_is ∙ p.live_is;
@@ -223,9 +226,9 @@ published_spends r mask clock t u v q c low h = record {
     input = ap (λ is. input_of (record u { inputs = is }) c) q.inputs_are
 
 -- what nobody was sent leaves a channel as it was
-pub published_left : (r : Round) (us : List Touches) (o : Option (List ℕ)) (mask : ℕ) (origins : List Pixel) (clock : ℕ) (t u v : Table)
-    → HearsEach r us o (mask_has mask) origins clock t u → Publishes mask clock u v → (c : ℕ) → 1 ≤ c → mask_has mask c ≡ false → IsLeft t v c
-published_left r us o mask origins clock t u v p q c from out = (
+pub published_left : (covers : CoverTable) (r : Round) (us : List Touches) (o : Option (List ℕ)) (mask : ℕ) (origins : List Pixel) (clock : ℕ) (t u v : Table)
+    → HearsEach covers r us o (mask_has mask) origins clock t u → Publishes mask clock u v → (c : ℕ) → 1 ≤ c → mask_has mask c ≡ false → IsLeft t v c
+published_left covers r us o mask origins clock t u v p q c from out = (
   q.channels_are c from ∙ leaves (mask_has mask c) (mask_has u.live c) _ _ out ∙ (p.stays c from out).0,
   ap (λ is. input_of (record u { inputs = is }) c) q.inputs_are ∙ (p.stays c from out).1,
 )

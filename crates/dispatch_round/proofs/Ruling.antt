@@ -28,6 +28,7 @@ use Rattle.route_split.proofs.SentBy.{after_is, sent_cancels, nothing_sent, stil
 use Rattle.route_split.proofs.Steps.{other_law}
 use Rattle.route_split.proofs.Quiet.{quiet_law}
 use Rattle.key_tables.specs.Focused.{change_of, change_sent}
+use Rattle.window_covers.specs.Covers.{CoverTable}
 use Rattle.dispatch_round.specs.declared.round.Round.{Round}
 use Rattle.dispatch_round.specs.Bodies.{motions_of, keys_to, bodies_of}
 use Rattle.dispatch_round.specs.Rounds.{IsStepIn, IsRound, HoldsPointers, may_take, may_hear, keyed, is_concerned, sent_in}
@@ -264,12 +265,12 @@ quiet_change : (lost gained w : ℕ) → mask_has lost w ≡ false → mask_has 
 quiet_change lost gained w a b =
     ap₂ (λ x y. change_sent (cond x (Some false) (cond y (Some true) None))) a b
 
-pub quiet_sent : (s : Scene) (e : Step) (ts : List Touches) (r : Round) (w : ℕ)
-    → IsRound s e ts r → IsWhole r.mark → is_channel w ≡ true → is_concerned ts r w ≡ false → sent_in r s e w ≡ []
-quiet_sent s e ts r w h whole is none =
+pub quiet_sent : (covers : CoverTable) (s : Scene) (e : Step) (ts : List Touches) (r : Round) (w : ℕ)
+    → IsRound s e ts r → IsWhole r.mark → is_channel w ≡ true → is_concerned ts r w ≡ false → sent_in covers r s e w ≡ []
+quiet_sent covers s e ts r w h whole is none =
     let a = neither _ (mask_has r.gained w) none in
     let b = neither _ (mask_has r.lost w) a.0 in
     let d = neither _ (mask_has (keyed r.keys.now r.target) w) b.0 in
     let motions = quiet_motions s e ts r.mark _ r.watchers w h.stands whole h.step_is d.0 in
     let keys = quiet_keys r.keys.now r.target w is d.1 in
-    ap₂ (λ ms ks. bodies_of ms ks (change_of r.lost r.gained w)) motions keys ∙ quiet_change r.lost r.gained w b.1 a.1
+    ap₂ (λ ms ks. bodies_of covers w ms ks (change_of r.lost r.gained w)) motions keys ∙ quiet_change r.lost r.gained w b.1 a.1

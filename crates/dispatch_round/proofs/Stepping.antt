@@ -4,10 +4,9 @@ use Rattle.std.specs.Prelude.{bit_or}
 use Rattle.std.specs.List.{list_any}
 use Rattle.std.proofs.Math.Seq.{drop-cons}
 use Rattle.std.proofs.Math.Bool.{or_assoc}
-use Rattle.std.proofs.lemmas.List.{drop_all, length-map, map-append}
+use Rattle.std.proofs.lemmas.List.{drop_all}
 use Rattle.std.proofs.lemmas.Bool.{ne_eqb}
 use Rattle.input_types.specs.declared.message.Body.{Body}
-use Rattle.input_types.specs.declared.message.Body.TheVariants.{Motion as MotionBody}
 use Rattle.input_types.specs.declared.motion.Motion.{Motion}
 use Rattle.input_types.specs.declared.pointer.Pointer.{Pointer}
 use Rattle.window_snapshot.specs.Mask.{mask_has}
@@ -20,9 +19,11 @@ use Rattle.touch_state.specs.Touches.{Touches}
 use Rattle.route_split.specs.Tables.{holds_at}
 use Rattle.dispatch_channels.specs.Table.{Table, input_of}
 use Rattle.dispatch_round.specs.declared.listener.Listener.{Listener}
+use Rattle.dispatch_round.specs.Bodies.{told}
 use Rattle.dispatch_round.specs.Rounds.{count_of}
 use Rattle.dispatch_round.specs.Saying.{CanHear, SendsOne, losses}
 use Rattle.dispatch_round.proofs.Saying.{sends_none, sends_then, hears_after, hears_less}
+use Rattle.dispatch_round.proofs.Telling.{told_one, told-length, told-append, told_pointers}
 use Rattle.dispatch_round.proofs.Cancelling.{cancelled_few, cancelled_elsewhere, drop_devices}
 
 -- the element at a place, and those behind it
@@ -50,26 +51,26 @@ one_less to b n i t u h can lt = hears_after to (b ∷ []) (n - i) (n - (i + 1))
 
 -- the next of some motions
 pub motions_next : (to : Listener) (all : List Motion) (m : Motion) (n : List Motion) (t u v : Table)
-    → Some m ≡ slice_get all 0 → n ≡ drop 1 all → SendsOne to (MotionBody m ∷ []) t u → SendsOne to (map MotionBody n) u v
-    → SendsOne to (map MotionBody all) t v
+    → Some m ≡ slice_get all 0 → n ≡ drop 1 all → SendsOne to (told to.covers.now to.window (m ∷ [])) t u → SendsOne to (told to.covers.now to.window n) u v
+    → SendsOne to (told to.covers.now to.window all) t v
 motions_next to all m n t u v is others p q =
-    say_next to (MotionBody m) (map MotionBody all) (map MotionBody n) t u v
-    (ap (map MotionBody) (first_of all m is ∙ ap (λ (ms : List Motion). m ∷ ms) (sym others))) p q
+    say_next to (told_one to.covers.now to.window m) (told to.covers.now to.window all) (told to.covers.now to.window n) t u v
+    (ap (told to.covers.now to.window) (first_of all m is ∙ ap (λ (ms : List Motion). m ∷ ms) (sym others))) p q
 
 pub motions_less : (to : Listener) (all : List Motion) (m : Motion) (n : List Motion) (t u : Table)
-    → Some m ≡ slice_get all 0 → n ≡ drop 1 all → SendsOne to (MotionBody m ∷ []) t u → CanHear to.window (length all) t
+    → Some m ≡ slice_get all 0 → n ≡ drop 1 all → SendsOne to (told to.covers.now to.window (m ∷ [])) t u → CanHear to.window (length all) t
     → CanHear to.window (length n) u
 motions_less to all m n t u is others h can =
     let size : length all ≡ suc (length n) = ap length (first_of all m is ∙ ap (λ (ms : List Motion). m ∷ ms) (sym others)) in
-    hears_after to (MotionBody m ∷ []) (length all) (length n) t u h can (omega (arith, size))
+    hears_after to (told_one to.covers.now to.window m ∷ []) (length all) (length n) t u h can (omega (arith, size))
 
 pub motions_shrink : (all : List Motion) (m : Motion) (n : List Motion) → Some m ≡ slice_get all 0 → n ≡ drop 1 all → length n < length all
 motions_shrink all m n is others =
     let size : length all ≡ suc (length n) = ap length (first_of all m is ∙ ap (λ (ms : List Motion). m ∷ ms) (sym others)) in
     omega (arith, size)
 
-pub motions_none : (to : Listener) (all : List Motion) (t : Table) → None ≡ slice_get all 0 → SendsOne to (map MotionBody all) t t
-motions_none to all t is = subst (λ (ms : List Motion). SendsOne to (map MotionBody ms) t t) (sym (first_of_none all is)) (sends_none to t)
+pub motions_none : (to : Listener) (all : List Motion) (t : Table) → None ≡ slice_get all 0 → SendsOne to (told to.covers.now to.window all) t t
+motions_none to all t is = subst (λ (ms : List Motion). SendsOne to (told to.covers.now to.window ms) t t) (sym (first_of_none all is)) (sends_none to t)
 
 -- the cancels of some of the pointers that a window has
 pub few_cancels : (d : ℕ) (lost : ℕ → Bool) (w : ℕ) (outgoing : List Motion) (had : List Pointer) (n : ℕ) (t : Table)
@@ -98,34 +99,35 @@ same_losses ts w d e now first is same =
 pub losses_next : (to : Listener) (ts : List Touches) (k d : ℕ) (first : Tracked) (t u v : Table)
     → k < 8 → d ≡ k + 1 → ((e : ℕ) → k < e → pointers_of (input_of u to.window) e ≡ pointers_of first e)
     → CanHear to.window (count_of first (drop k devices)) u
-    → ((x : Table) → SendsOne to (map MotionBody (flat_map (losses ts to.window first) (drop k devices))) u x
-    → SendsOne to (map MotionBody (flat_map (losses ts to.window first) devices)) t x)
-    → SendsOne to (map MotionBody (losses ts to.window (input_of u to.window) d)) u v
+    → ((x : Table) → SendsOne to (told to.covers.now to.window (flat_map (losses ts to.window first) (drop k devices))) u x
+    → SendsOne to (told to.covers.now to.window (flat_map (losses ts to.window first) devices)) t x)
+    → SendsOne to (told to.covers.now to.window (losses ts to.window (input_of u to.window) d)) u v
     → CanHear to.window (count_of first (drop (k + 1) devices)) v
     × ((e : ℕ) → k + 1 < e → pointers_of (input_of v to.window) e ≡ pointers_of first e)
-    × ((x : Table) → SendsOne to (map MotionBody (flat_map (losses ts to.window first) (drop (k + 1) devices))) v x
-    → SendsOne to (map MotionBody (flat_map (losses ts to.window first) devices)) t x)
+    × ((x : Table) → SendsOne to (told to.covers.now to.window (flat_map (losses ts to.window first) (drop (k + 1) devices))) v x
+    → SendsOne to (told to.covers.now to.window (flat_map (losses ts to.window first) devices)) t x)
 losses_next to ts k d first t u v lt is same can all h =
     let now : List Motion = losses ts to.window (input_of u to.window) d in
     let ds : List ℕ = drop (k + 1) devices in
     let counted : count_of first (drop k devices) ≡ length (pointers_of first (k + 1)) + count_of first ds = ap (count_of first) (drop_devices k lt) in
-    let made : length (map MotionBody now) ≡ length now = length-map now MotionBody in
+    let made : length (told to.covers.now to.window now) ≡ length now = told-length to.covers.now to.window now in
     let few : length now ≤ length (pointers_of (input_of u to.window) d) = cancelled_few d (λ i. not (holds_at ts to.window d i)) (pointers_of (input_of u to.window) d) in
     let there : pointers_of (input_of u to.window) d ≡ pointers_of first (k + 1) =
     ap (pointers_of (input_of u to.window)) is ∙ same (k + 1) (omega arith) in
     let here : length (pointers_of (input_of u to.window) d) ≡ length (pointers_of first (k + 1)) = ap length there in
-    let joined : map MotionBody now ++ map MotionBody (flat_map (losses ts to.window first) ds) ≡ map MotionBody (flat_map (losses ts to.window first) (drop k devices)) =
-    sym (map-append MotionBody now (flat_map (losses ts to.window first) ds))
-    ∙ ap (map MotionBody)
+    let joined : told to.covers.now to.window now ++ told to.covers.now to.window (flat_map (losses ts to.window first) ds) ≡ told to.covers.now to.window (flat_map (losses ts to.window first) (drop k devices)) =
+    sym (told-append to.covers.now to.window now (flat_map (losses ts to.window first) ds))
+    ∙ ap (told to.covers.now to.window)
     (ap (λ (ms : List Motion). ms ++ flat_map (losses ts to.window first) ds) (same_losses ts to.window d (k + 1) (input_of u to.window) first is there)
     ∙ sym (ap (flat_map (losses ts to.window first)) (drop_devices k lt))) in (
-      hears_after to (map MotionBody now) (count_of first (drop k devices)) (count_of first ds) u v h can (omega (arith, counted, made, few, here)),
+      hears_after to (told to.covers.now to.window now) (count_of first (drop k devices)) (count_of first ds) u v h can (omega (arith, counted, made, few, here)),
       λ e above.
           h.tracks.pointers_are e
+          ∙ told_pointers to.covers.now to.window now e (pointers_of (input_of u to.window) e)
           ∙ cancelled_elsewhere d (λ i. not (holds_at ts to.window d i)) (pointers_of (input_of u to.window) d) e (pointers_of (input_of u to.window) e) (ne_eqb d e (λ s. absurd (omega (arith, above, is, s))))
           ∙ same e (omega (arith, above)),
       λ x rest. all x (subst (λ (bs : List Body). SendsOne to bs u x) joined
-          (sends_then to (map MotionBody now) (map MotionBody (flat_map (losses ts to.window first) ds)) u v x h rest)),
+          (sends_then to (told to.covers.now to.window now) (told to.covers.now to.window (flat_map (losses ts to.window first) ds)) u v x h rest)),
     )
 
 -- the windows of the next device

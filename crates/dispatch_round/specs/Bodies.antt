@@ -5,7 +5,9 @@ use Rattle.input_types.specs.declared.message.Body.{Body}
 use Rattle.input_types.specs.declared.message.Body.TheVariants.{Motion as MotionBody, Key}
 use Rattle.input_types.specs.declared.motion.Motion.{Motion}
 use Rattle.input_types.specs.declared.pointer.Pointer.{Pointer}
+use Rattle.routing_rules.specs.Cover.{under_all}
 use Rattle.routing_rules.specs.Scene.{Scene, Step}
+use Rattle.window_covers.specs.Covers.{CoverTable, cover_in}
 use Rattle.routing_rules.specs.Outgoing.{outgoing, devices}
 use Rattle.cancel_synthesis.specs.Tracked.{Tracked, pointers_of, pointers_then}
 use Rattle.key_tables.specs.Focused.{change_sent}
@@ -15,13 +17,17 @@ use Rattle.key_tables.specs.Held.{bodies_tracked}
 abbrev pub motions_of : Scene → Step → ℕ → List Motion
 motions_of s e w = flat_map (outgoing s e w) devices
 
+-- motions as a window is sent them, each with the flags of what lies over the window for its device
+abbrev pub told : CoverTable → ℕ → List Motion → List Body
+told covers w ms = map MotionBody (under_all (cover_in covers w) ms)
+
 -- the key messages that a window is sent, of which one window is sent all
 abbrev pub keys_to : (target : ℕ) → List KeyMsg → ℕ → List KeyMsg
 keys_to target keys w = if w == target then keys else []
 
 -- what it is sent: motions, then keys, then a change of its focus
-abbrev pub bodies_of : List Motion → List KeyMsg → Option Bool → List Body
-bodies_of motions keys change = map MotionBody motions ++ map Key keys ++ change_sent change
+abbrev pub bodies_of : CoverTable → ℕ → List Motion → List KeyMsg → Option Bool → List Body
+bodies_of covers w motions keys change = told covers w motions ++ map Key keys ++ change_sent change
 
 -- the pointers of device d once these bodies are tracked, the first one first
 abbrev pub pointers_tracked : List Body → ℕ → List Pointer → List Pointer

@@ -3,6 +3,7 @@ use Rattle.std.specs.Prelude.{◌≡◌, ◌≤◌, ℕ, Bool, true, false, List
 use Rattle.input_types.specs.declared.axis.Pixel.{Pixel}
 use Rattle.routing_rules.specs.Scene.{Scene, Step}
 use Rattle.touch_state.specs.Touches.{Touches}
+use Rattle.window_covers.specs.Covers.{CoverTable}
 use Rattle.route_split.specs.Marking.{IsChanged, AreLosses}
 use Rattle.dispatch_channels.specs.Table.{Table, opened, channel_of, input_of}
 use Rattle.dispatch_round.specs.declared.round.Round.{Round}
@@ -13,14 +14,14 @@ use Rattle.dispatch_round.specs.Saying.{Spends}
 
 -- The channels that pass the test are told what is said in the round, in each scene; the others are as they were, and so is all else.
 pub record HearsEach
-    (r : Round) (ts : List Touches) (losses : Option (List ℕ)) (hear : ℕ → Bool) (origins : List Pixel) (clock : ℕ)
+    (covers : CoverTable) (r : Round) (ts : List Touches) (losses : Option (List ℕ)) (hear : ℕ → Bool) (origins : List Pixel) (clock : ℕ)
     (old new : Table) : Type 0 where
   pub outgoing :
       (s : Scene) (e : Step) (before : List Touches)
       → IsChanged before ts r.mark losses → IsRound s e before r → AllHoldPointers s old
       → (c : ℕ) → hear c ≡ true
-      → (channel_of new c ≡ heard (sent_in r s e c) (origin_at origins c) clock (channel_of old c))
-      × TracksAll (input_of old c) (input_of new c) (sent_in r s e c)
+      → (channel_of new c ≡ heard (sent_in covers r s e c) (origin_at origins c) clock (channel_of old c))
+      × TracksAll (input_of old c) (input_of new c) (sent_in covers r s e c)
   pub stays :
       (c : ℕ) → 1 ≤ c → hear c ≡ false → (channel_of new c ≡ channel_of old c) × (input_of new c ≡ input_of old c)
   pub spends : (c : ℕ) → hear c ≡ true → Spends r c old new
@@ -33,7 +34,7 @@ pub record HearsEach
 
 -- the same, by what windows lost with the mark of the round, where one pilfers
 pub record HearsChanged
-    (r : Round) (before ts : List Touches) (hear : ℕ → Bool) (origins : List Pixel) (clock : ℕ) (old new : Table) : Type 0 where
+    (covers : CoverTable) (r : Round) (before ts : List Touches) (hear : ℕ → Bool) (origins : List Pixel) (clock : ℕ) (old new : Table) : Type 0 where
   pub losses : Option (List ℕ)
   pub losses_are : IfSome losses (AreLosses before r.mark)
-  pub hears : HearsEach r ts losses hear origins clock old new
+  pub hears : HearsEach covers r ts losses hear origins clock old new

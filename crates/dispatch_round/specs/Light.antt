@@ -2,18 +2,19 @@
 use Rattle.std.specs.Prelude.{◌≡◌, ◌≤◌, ℕ, ◌+◌, Bool, false, List, length, map, Option, Some, None, IfSome}
 use Rattle.std.specs.Option.{option_copied}
 use Rattle.input_types.specs.declared.message.Body.{Body}
-use Rattle.input_types.specs.declared.message.Body.TheVariants.{Motion as MotionBody, Key}
+use Rattle.input_types.specs.declared.message.Body.TheVariants.{Key}
 use Rattle.input_types.specs.declared.motion.Motion.{Motion}
 use Rattle.input_types.specs.declared.motion.MotionAction.TheVariants.{Move}
 use Rattle.routing_rules.specs.Outgoing.{listing, moves}
 use Rattle.touch_state.specs.Touches.{Touches}
+use Rattle.window_covers.specs.Covers.{CoverTable}
 use Rattle.key_tables.specs.Held.{bodies_tracked}
 use Rattle.route_split.specs.declared.mark.Mark.TheVariants.{NoOp}
 use Rattle.route_split.specs.Tables.{any_at, holds_at}
 use Rattle.dispatch_channels.specs.Table.{Table, channel_of, input_of}
 use Rattle.dispatch_round.specs.declared.round.Round.{Round}
 use Rattle.dispatch_round.specs.declared.listener.Listener.{Listener}
-use Rattle.dispatch_round.specs.Bodies.{keys_to}
+use Rattle.dispatch_round.specs.Bodies.{keys_to, told}
 use Rattle.dispatch_round.specs.Saying.{HearsMotions}
 
 -- The round gives and takes nothing. Its motion, where it has one, is a Move, for which no window watches, and no focus changes.
@@ -30,8 +31,8 @@ held_by ts (Some m) w = any_at ts w m.device
 held_by ts None w = false
 
 -- what a window is told of a Move with which no pointer changes hands: that the pointers move that it holds, where some are listed
-abbrev pub moved : List Touches → Motion → (w : ℕ) → List Body
-moved ts m w = map MotionBody (moves m.device (listing (holds_at ts w m.device) m.pointers))
+abbrev pub moved : CoverTable → List Touches → Motion → (w : ℕ) → List Body
+moved covers ts m w = told covers w (moves m.device (listing (holds_at ts w m.device) m.pointers))
 
 -- of a motion it is sent one message at most
 abbrev pub most_moves : Option Motion → ℕ

@@ -19,6 +19,7 @@ use Rattle.route_split.specs.Sending.{IsListed}
 use Rattle.routing_rules.specs.Watching.{is_watching}
 use Rattle.input_channel.specs.State.{with_spare}
 use Rattle.cancel_synthesis.specs.Tracked.{Tracked, pointers_of}
+use Rattle.window_covers.specs.Covers.{CoverTable}
 use Rattle.cancel_synthesis.specs.Tracked.{with_spare as tracked_with_spare}
 use Rattle.key_tables.specs.Focused.{change_of, change_sent}
 use Rattle.dispatch_channels.specs.Table.{Table, opened, channel_of, input_of}
@@ -48,9 +49,9 @@ HoldsPointers s w input = (d : ℕ) → 1 ≤ d → d ≤ 8 → pointers_of inpu
 abbrev pub AllHoldPointers : Scene → Table → Type 0
 AllHoldPointers s t = (w : ℕ) → mask_has t.live w ≡ true → HoldsPointers s w (input_of t w)
 
--- what a window is sent in a round
-abbrev pub sent_in : Round → Scene → Step → ℕ → List Body
-sent_in r s e w = bodies_of (motions_of s e w) (keys_to r.target r.keys.now w) (change_of r.lost r.gained w)
+-- what a window is sent in a round, by what lies over it after the step
+abbrev pub sent_in : CoverTable → Round → Scene → Step → ℕ → List Body
+sent_in covers r s e w = bodies_of covers w (motions_of s e w) (keys_to r.target r.keys.now w) (change_of r.lost r.gained w)
 
 -- pointers may be taken from windows by a step that is no motion and has this mark
 abbrev pub may_take : Mark → Bool

@@ -3,7 +3,7 @@ use Rattle.std.specs.Prelude.{◌≡◌, ◌≢◌, ◌≤◌, ℕ, ◌+◌, ◌
 use Rattle.std.specs.Option.{option_copied}
 use Rattle.bits32.specs.Set.{is_in}
 use Rattle.input_types.specs.declared.message.Body.{Body}
-use Rattle.input_types.specs.declared.message.Body.TheVariants.{Motion as MotionBody, Key}
+use Rattle.input_types.specs.declared.message.Body.TheVariants.{Key}
 use Rattle.input_types.specs.declared.motion.Motion.{Motion}
 use Rattle.input_types.specs.declared.pointer.Pointer.{Pointer}
 use Rattle.window_snapshot.specs.Mask.{mask_has}
@@ -22,7 +22,7 @@ use Rattle.key_tables.specs.Held.{bodies_tracked}
 use Rattle.dispatch_channels.specs.Table.{Table, opened, IsOpened, channel_of, input_of}
 use Rattle.dispatch_round.specs.declared.round.Round.{Round}
 use Rattle.dispatch_round.specs.declared.listener.Listener.{Listener}
-use Rattle.dispatch_round.specs.Bodies.{TracksAll, keys_to, motions_of}
+use Rattle.dispatch_round.specs.Bodies.{TracksAll, keys_to, motions_of, told}
 use Rattle.dispatch_round.specs.Rounds.{IsRound, HoldsPointers, sent_in, most_motions, most_bodies}
 use Rattle.dispatch_round.specs.Outgoing.{heard}
 
@@ -65,7 +65,7 @@ pilfered_from k lost w input = []
 pub record HearsMotions (r : Round) (ts : List Touches) (losses : Option (List ℕ)) (to : Listener) (old new : Table) : Type 0 where
   pub motions : List Motion
   pub few : length motions ≤ most_motions (option_copied r.motion) (input_of old to.window)
-  pub outgoing : SendsOne to (map MotionBody motions) old new
+  pub outgoing : SendsOne to (told to.covers.now to.window motions) old new
   pub by_rules :
       (s : Scene) (e : Step) (before : List Touches)
       → IsChanged before ts r.mark losses
@@ -86,4 +86,4 @@ pub record HearsRound (r : Round) (ts : List Touches) (losses : Option (List ℕ
   pub by_rules :
       (s : Scene) (e : Step) (before : List Touches)
       → IsChanged before ts r.mark losses
-      → IsRound s e before r → HoldsPointers s to.window (input_of old to.window) → bodies ≡ sent_in r s e to.window
+      → IsRound s e before r → HoldsPointers s to.window (input_of old to.window) → bodies ≡ sent_in to.covers.now r s e to.window

@@ -25,6 +25,7 @@ use route_split::Touches;
 use split_motion::PointersById;
 use std::alloc::AllocError;
 use std::marker::Model;
+use window_covers::Covers;
 
 /// The mask of the windows that hold something of the device of a motion.
 #[inline(always)]
@@ -159,13 +160,14 @@ fn move_held(
 )
     requires pointers { pointers.now ≡ motion.now.pointers }
     requires room { CanHear to.now.window 1 channels.old }
-    ensures { SendsOne to.now (moved touches.now motion.now to.now.window) channels.old channels.new }
+    ensures { SendsOne to.now (moved to.now.covers.now touches.now motion.now to.now.window) channels.old channels.new }
 {
     let held = touches.held(to.window, motion.device);
     if pointers.has_some(held) {
         channels.send_moves(
             to.window,
             motion.device,
+            to.covers.flags(to.window, motion.device),
             pointers,
             held,
             to.origin,
@@ -225,13 +227,14 @@ fn send_each(
     origins: &[Pixel; 64],
     round: &Round,
     touches: &Touches,
+    covers: &Covers,
     channels: &mut Channels,
 )
     requires light { IsLight round.now }
     requires opened { (w : ℕ) → mask_has outgoing w ≡ true → w ≤ opened channels.old }
     requires live { (w : ℕ) → mask_has outgoing w ≡ true → mask_has channels.old.live w ≡ true }
     requires room { (w : ℕ) → mask_has outgoing w ≡ true → HasLight round.now channels.old w }
-    ensures each { HearsEach round.now touches.now None (mask_has outgoing) origins.now clock channels.old
+    ensures each { HearsEach covers.now round.now touches.now None (mask_has outgoing) origins.now clock channels.old
         channels.new }
     ensures spends { (w : ℕ) → mask_has outgoing w ≡ true → SpendsLight round.now channels.old channels.new w }
 {
@@ -243,6 +246,7 @@ fn send_each(
             window,
             origin: origins[window as usize - 1],
             clock,
+            covers,
         };
         send_one(&to, round, motion.as_ref(), touches, channels);
         rest = without(rest, window);
@@ -259,6 +263,7 @@ pub fn send_light(
     outgoing: u64,
     round: &Round,
     touches: &mut Touches,
+    covers: &Covers,
     channels: &mut Channels,
     origins: &[Pixel; 64],
     place: u64,
@@ -272,7 +277,7 @@ pub fn send_light(
         ChangesAll touches.old touches.new (gives k) (takes (taking touches.old k)) place
         (pilfers (taking touches.old k)) }
     ensures outgoing { (s : Scene) (e : Step) → IsRound s e touches.old round.now → AllHoldPointers s channels.old
-        → SendsAll outgoing (sent_in round.now s e) origins.now clock channels.old channels.new }
+        → SendsAll outgoing (sent_in covers.now round.now s e) origins.now clock channels.old channels.new }
     ensures spends { (w : ℕ) → mask_has outgoing w ≡ true → SpendsLight round.now channels.old channels.new w }
     ensures left { (w : ℕ) → 1 ≤ w → mask_has outgoing w ≡ false → IsLeft channels.old channels.new w }
     ensures live { channels.new.live ≡ channels.old.live }
@@ -280,6 +285,6 @@ pub fn send_light(
     ensures anrs { channels.new.anrs ≡ channels.old.anrs }
 {
     touches.rest();
-    send_each(outgoing, clock, origins, round, touches, channels);
+    send_each(outgoing, clock, origins, round, touches, covers, channels);
     channels.publish(outgoing, clock);
 }

@@ -1,10 +1,12 @@
 //! Who is sent.
 use input_types::{Moment, Pixel};
+use window_covers::Covers;
 
-/// A window that is sent something at a clock, and where it has its origin.
+/// A window that is sent something at a clock, where it has its origin, and what lies over the windows.
 #[derive(Clone, Copy)]
-pub(crate) struct Listener {
+pub(crate) struct Listener<'a> {
     pub(crate) window: u32,
     pub(crate) origin: Pixel,
     pub(crate) clock: Moment,
+    pub(crate) covers: &'a Covers,
 }

@@ -1,12 +1,12 @@
 //! One window is sent the motions of a step.
-ghost use Rattle.std.specs.Prelude.{◌≡◌, ℕ, true, ◌==◌, List, Option, Some, length, map, flat_map};
+ghost use Rattle.std.specs.Prelude.{◌≡◌, ℕ, true, ◌==◌, List, Option, Some, length, flat_map};
 ghost use Rattle.std.specs.List.{list_any};
 ghost use Rattle.std.specs.Option.{option_copied};
 ghost use Rattle.bits32.specs.Set.{is_in};
-ghost use Rattle.input_types.specs.declared.message.Body.TheVariants.{Motion as MotionBody};
 ghost use Rattle.routing_rules.specs.Outgoing.{devices};
 ghost use Rattle.cancel_synthesis.specs.Tracked.{pointers_of};
 ghost use Rattle.dispatch_channels.specs.Table.{input_of};
+ghost use Rattle.dispatch_round.specs.Bodies.{told};
 ghost use Rattle.dispatch_round.specs.Rounds.{may_take, count_of, most_motions};
 ghost use Rattle.dispatch_round.specs.Saying.{CanHear, SendsOne, HearsMotions, losses, pilfered_from};
 
@@ -38,7 +38,7 @@ fn say_loss(to: &Listener, device: DeviceId, touches: &Touches, channels: &mut C
         CanHear to.now.window (length had) channels.old }
     ensures { let input = input_of channels.old to.now.window in
         let lost = losses touches.now to.now.window input device in
-        SendsOne to.now (map MotionBody lost) channels.old channels.new }
+        SendsOne to.now (told to.now.covers.now to.now.window lost) channels.old channels.new }
 {
     let held = touches.held(to.window, device);
     let cancels = channels.input(to.window).cancels_but(device, held);
@@ -50,7 +50,7 @@ fn say_losses(to: &Listener, touches: &Touches, channels: &mut Channels)
     requires { CanHear to.now.window (count_of (input_of channels.old to.now.window) devices) channels.old }
     ensures { let input = input_of channels.old to.now.window in
         let lost = flat_map (losses touches.now to.now.window input) devices in
-        SendsOne to.now (map MotionBody lost) channels.old channels.new }
+        SendsOne to.now (told to.now.covers.now to.now.window lost) channels.old channels.new }
 {
     'devices: for place in 0..8u8 {
         say_loss(to, device_at(place), touches, channels);
@@ -62,7 +62,7 @@ fn say_pilfered(to: &Listener, mark: &Mark, losses: &Losses, channels: &mut Chan
     requires { CanHear to.now.window (count_of (input_of channels.old to.now.window) devices) channels.old }
     ensures { let input = input_of channels.old to.now.window in
         let lost = pilfered_from mark.now losses.now to.now.window input in
-        SendsOne to.now (map MotionBody lost) channels.old channels.new }
+        SendsOne to.now (told to.now.covers.now to.now.window lost) channels.old channels.new }
 {
     match *mark {
         Mark::Pilfer { device, window: _ } => {

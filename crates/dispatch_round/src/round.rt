@@ -1,6 +1,7 @@
 //! What a step tells.
 use input_types::{KeyMsg, Motion};
 use route_split::Mark;
+use window_covers::Gift;
 
 /// What one step of the dispatcher tells windows. A window goes by the number of its channel, and masks are sets of
 /// channels.
@@ -10,6 +11,8 @@ pub struct Round<'a> {
     pub mark: Mark,
     /// The motion that it dispatches; None, where it dispatches none.
     pub motion: Option<&'a Motion>,
+    /// What lies over the windows that it gives a pointer; None, where it gives none.
+    pub gift: Option<Gift>,
     /// The windows that are told that a touch is outside of them.
     pub watchers: u64,
     /// The window that is told of keys.

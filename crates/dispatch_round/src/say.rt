@@ -1,6 +1,6 @@
 //! One window is sent motions of a device, keys, or a change of its focus. None of this takes memory.
-ghost use Rattle.std.specs.Prelude.{max, [], ◌∷◌, map, length};
-ghost use Rattle.input_types.specs.declared.message.Body.TheVariants.{Motion as MotionBody, Key as KeyBody, Focus as FocusBody};
+ghost use Rattle.std.specs.Prelude.{◌≡◌, max, [], ◌∷◌, map, length};
+ghost use Rattle.input_types.specs.declared.message.Body.TheVariants.{Key as KeyBody, Focus as FocusBody};
 ghost use Rattle.input_types.specs.declared.motion.MotionAction.TheVariants.{Move};
 ghost use Rattle.routing_rules.specs.Outgoing.{listing, plain};
 ghost use Rattle.bits32.specs.Set.{is_in};
@@ -9,13 +9,15 @@ ghost use Rattle.cancel_synthesis.specs.Ends.{pointers_cancelled};
 ghost use Rattle.cancel_synthesis.specs.Tracked.{pointers_of};
 ghost use Rattle.key_tables.specs.Focused.{change_sent};
 ghost use Rattle.dispatch_channels.specs.Table.{input_of};
+ghost use Rattle.routing_rules.specs.Cover.{Cover, flags_of, flags_under};
+ghost use Rattle.dispatch_round.specs.Bodies.{told};
 ghost use Rattle.dispatch_round.specs.Saying.{CanHear, SendsOne, motions_by};
 
 use crate::listener::Listener;
 use bits32::Bits32;
 use cancel_synthesis::Cancels;
 use dispatch_channels::Channels;
-use input_types::{Body, DeviceId, KeyMsg, Motion};
+use input_types::{Body, DeviceId, KeyMsg, Motion, MotionAction};
 use route_split::Sends;
 use split_motion::PointersById;
 
@@ -27,25 +29,38 @@ fn say(to: &Listener, body: &Body, channels: &mut Channels)
     channels.send(to.window, body, to.origin, to.clock);
 }
 
-/// Tells one motion.
+/// The flags of a motion with those of a cover; a touch outside has none of these.
+fn flags_under(action: MotionAction, flags: u32, cover: u32) -> u32
+    ensures { (c : Cover) → cover ≡ flags_of c → result ≡ flags_under action c flags }
+{
+    match action {
+        MotionAction::Outside => flags,
+        _ => flags | cover,
+    }
+}
+
+/// Tells one motion, with the flags of what lies over the window.
 fn say_motion(to: &Listener, motion: &Motion, channels: &mut Channels)
     requires { CanHear to.now.window 1 channels.old }
-    ensures { SendsOne to.now (MotionBody motion.now ∷ []) channels.old channels.new }
+    ensures { SendsOne to.now (told to.now.covers.now to.now.window (motion.now ∷ [])) channels.old channels.new }
 {
-    channels.send_motion(to.window, motion, to.origin, to.clock);
+    let cover = to.covers.flags(to.window, motion.device);
+    let flags = flags_under(motion.action, motion.flags, cover);
+    channels.send_motion(to.window, motion, flags, to.origin, to.clock);
 }
 
 /// Tells that the pointers of a motion with these ids move.
 pub(crate) fn say_moves(to: &Listener, motion: &Motion, ids: Bits32, channels: &mut Channels)
     requires { CanHear to.now.window 1 channels.old }
-    ensures { SendsOne to.now
-        (MotionBody (plain motion.now.device Move (listing (λ i. is_in i ids) motion.now.pointers)) ∷ [])
+    ensures { SendsOne to.now (told to.now.covers.now to.now.window
+        (plain motion.now.device Move (listing (λ i. is_in i ids) motion.now.pointers) ∷ []))
         channels.old channels.new }
 {
     let pointers = PointersById::new(&motion.pointers);
     channels.send_moves(
         to.window,
         motion.device,
+        to.covers.flags(to.window, motion.device),
         &pointers,
         ids,
         to.origin,
@@ -56,7 +71,7 @@ pub(crate) fn say_moves(to: &Listener, motion: &Motion, ids: Bits32, channels: &
 /// Tells the cancels of pointers that are taken from the window, one after the other.
 pub(crate) fn say_cancels(to: &Listener, cancels: Cancels, channels: &mut Channels)
     requires { CanHear to.now.window (length (still_sent cancels)) channels.old }
-    ensures { SendsOne to.now (map MotionBody (still_sent cancels)) channels.old channels.new }
+    ensures { SendsOne to.now (told to.now.covers.now to.now.window (still_sent cancels)) channels.old channels.new }
 {
     let mut left = cancels;
     while let Some(cancel) = left.next() {
@@ -69,7 +84,8 @@ pub(crate) fn say_found(to: &Listener, device: DeviceId, sends: &Sends, channels
     requires { let had = pointers_of (input_of channels.old to.now.window) device in
         CanHear to.now.window (max 1 (length had)) channels.old }
     ensures { let had = pointers_of (input_of channels.old to.now.window) device in
-        SendsOne to.now (map MotionBody (motions_by sends.now device had)) channels.old channels.new }
+        SendsOne to.now (told to.now.covers.now to.now.window (motions_by sends.now device had)) channels.old
+        channels.new }
 {
     match sends {
         Sends::Nothing => {}
@@ -84,7 +100,9 @@ fn say_lost(to: &Listener, device: DeviceId, lost: Bits32, channels: &mut Channe
     requires { let had = pointers_of (input_of channels.old to.now.window) device in
         CanHear to.now.window (max 1 (length had)) channels.old }
     ensures { let had = pointers_of (input_of channels.old to.now.window) device in
-        SendsOne to.now (map MotionBody (pointers_cancelled device (λ i. is_in i lost) had)) channels.old channels.new }
+        SendsOne to.now
+        (told to.now.covers.now to.now.window (pointers_cancelled device (λ i. is_in i lost) had)) channels.old
+        channels.new }
 {
     let cancels = channels.input(to.window).cancels(device, lost);
     say_cancels(to, cancels, channels);

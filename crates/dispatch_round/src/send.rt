@@ -23,6 +23,7 @@ use input_types::{Moment, Pixel};
 use key_tables::focus_change;
 use pilfer_monitor::Losses;
 use route_split::{Mark, Touches};
+use window_covers::Covers;
 
 /// One window is sent all of a step: motions, then keys, then a change of its focus.
 fn send_one(
@@ -49,6 +50,7 @@ fn send_each(
     origins: &[Pixel; 64],
     round: &Round,
     touches: &Touches,
+    covers: &Covers,
     losses: Option<&Losses>,
     channels: &mut Channels,
 )
@@ -56,7 +58,8 @@ fn send_each(
     requires live { (w : ℕ) → mask_has outgoing w ≡ true → mask_has channels.old.live w ≡ true }
     requires room { (w : ℕ) → mask_has outgoing w ≡ true → HasRoom round.now channels.old w }
     ensures { let losses = option_copied losses.entry in
-        HearsEach round.now touches.now losses (mask_has outgoing) origins.now clock channels.old channels.new }
+        HearsEach covers.now round.now touches.now losses (mask_has outgoing) origins.now clock channels.old
+        channels.new }
 {
     let mut rest = outgoing;
     while rest != 0 {
@@ -65,6 +68,7 @@ fn send_each(
             window,
             origin: origins[window as usize - 1],
             clock,
+            covers,
         };
         send_one(&to, round, touches, losses, channels);
         rest = without(rest, window);
@@ -78,6 +82,7 @@ fn change_and_send(
     origins: &[Pixel; 64],
     round: &Round,
     touches: &mut Touches,
+    covers: &Covers,
     channels: &mut Channels,
     place: u64,
 )
@@ -88,16 +93,18 @@ fn change_and_send(
     ensures changes { let k = round.now.mark in
         ChangesAll touches.old touches.new (gives k) (takes (taking touches.old k)) place
         (pilfers (taking touches.old k)) }
-    ensures outgoing { HearsChanged round.now touches.old touches.new (mask_has outgoing) origins.now clock
-        channels.old channels.new }
+    ensures outgoing { HearsChanged covers.now round.now touches.old touches.new (mask_has outgoing) origins.now
+        clock channels.old channels.new }
 {
     match round.mark {
         Mark::Pilfer { .. } => pilfer_and_send(
-            outgoing, clock, origins, round, touches, channels, place,
+            outgoing, clock, origins, round, touches, covers, channels, place,
         ),
         _ => {
             touches.change_plain(&round.mark, place);
-            send_each(outgoing, clock, origins, round, touches, None, channels);
+            send_each(
+                outgoing, clock, origins, round, touches, covers, None, channels,
+            );
         }
     }
 }
@@ -111,6 +118,7 @@ fn pilfer_and_send(
     origins: &[Pixel; 64],
     round: &Round,
     touches: &mut Touches,
+    covers: &Covers,
     channels: &mut Channels,
     place: u64,
 )
@@ -121,8 +129,8 @@ fn pilfer_and_send(
     ensures changes { let k = round.now.mark in
         ChangesAll touches.old touches.new (gives k) (takes (taking touches.old k)) place
         (pilfers (taking touches.old k)) }
-    ensures outgoing { HearsChanged round.now touches.old touches.new (mask_has outgoing) origins.now clock
-        channels.old channels.new }
+    ensures outgoing { HearsChanged covers.now round.now touches.old touches.new (mask_has outgoing) origins.now
+        clock channels.old channels.new }
 {
     let losses = touches.change(&round.mark, place);
     send_each(
@@ -131,6 +139,7 @@ fn pilfer_and_send(
         origins,
         round,
         touches,
+        covers,
         losses.as_ref(),
         channels,
     );
@@ -140,12 +149,13 @@ fn pilfer_and_send(
 /// the rules of the step say, and publishes it at the clock. Takes no memory.
 ///
 /// The mask is that of the [`listeners`](crate::listeners), for which [`make_room`](crate::make_room) has made the
-/// room. The places of motions are counted from the origins, of which that of window 1 is the first one. The clock may
-/// not be below that at which an unfinished message was delivered.
+/// room. The covers are those after the step. The places of motions are counted from the origins, of which that of
+/// window 1 is the first one. The clock may not be below that at which an unfinished message was delivered.
 pub fn send_all(
     outgoing: u64,
     round: &Round,
     touches: &mut Touches,
+    covers: &Covers,
     channels: &mut Channels,
     origins: &[Pixel; 64],
     place: u64,
@@ -159,13 +169,15 @@ pub fn send_all(
         ChangesAll touches.old touches.new (gives k) (takes (taking touches.old k)) place
         (pilfers (taking touches.old k)) }
     ensures outgoing { (s : Scene) (e : Step) → IsRound s e touches.old round.now → AllHoldPointers s channels.old
-        → SendsAll outgoing (sent_in round.now s e) origins.now clock channels.old channels.new }
+        → SendsAll outgoing (sent_in covers.now round.now s e) origins.now clock channels.old channels.new }
     ensures spends { (w : ℕ) → mask_has outgoing w ≡ true → Spends round.now w channels.old channels.new }
     ensures left { (w : ℕ) → 1 ≤ w → mask_has outgoing w ≡ false → IsLeft channels.old channels.new w }
     ensures live { channels.new.live ≡ channels.old.live }
     ensures gone { (c : ℕ) → 1 ≤ c → (channel_of channels.new c).gone ≡ (channel_of channels.old c).gone }
     ensures anrs { channels.new.anrs ≡ channels.old.anrs }
 {
-    change_and_send(outgoing, clock, origins, round, touches, channels, place);
+    change_and_send(
+        outgoing, clock, origins, round, touches, covers, channels, place,
+    );
     channels.publish(outgoing, clock);
 }

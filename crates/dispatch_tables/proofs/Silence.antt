@@ -5,7 +5,8 @@ use Rattle.input_types.specs.declared.key.KeyArgs.{KeyArgs}
 use Rattle.input_types.specs.declared.message.Body.TheVariants.{Key, Motion as MotionBody}
 use Rattle.input_types.specs.declared.motion.Motion.{Motion}
 use Rattle.window_snapshot.specs.Mask.{mask_has}
-use Rattle.routing_rules.specs.Marks.{Mark}
+use Rattle.routing_rules.specs.Cover.{under_all}
+use Rattle.routing_rules.specs.Marks.{Mark, covered}
 use Rattle.routing_rules.specs.Scene.{Scene, Step, Mutes, NoOp}
 use Rattle.routing_rules.specs.Given.{mark}
 use Rattle.routing_rules.specs.Outgoing.{sent_with, devices}
@@ -21,7 +22,7 @@ use Rattle.dispatch_history.specs.Focus.{has_focus, is_target, focus_sent}
 use Rattle.dispatch_history.specs.Keys.{keys, ends, loses_all}
 use Rattle.dispatch_history.specs.KeySent.{keys_sent, key_cancelled, repeat_by, last_key}
 use Rattle.dispatch_history.specs.Said.{said, motion_from, motions_said, keys_said}
-use Rattle.dispatch_history.specs.Step.{scene}
+use Rattle.dispatch_history.specs.Step.{scene, marks}
 use Rattle.dispatch_tables.specs.Laws.{SilentCalls}
 
 -- nothing ends a key if no args are dispatched
@@ -60,21 +61,21 @@ said_none after es s e k c motions target named focus repeats = by_live (live af
         repeats
 
     nothing : live after c ≡ true
-        → motions_said s e k (origin (past_of es) c) c ++ keys_said after None es c ++ focus_sent (has_focus (past_of es) c) (has_focus after c)
+        → motions_said s e k (covered (k ∷ marks es) c) (origin (past_of es) c) c ++ keys_said after None es c ++ focus_sent (has_focus (past_of es) c) (has_focus after c)
         ≡ []
     nothing y =
-        ap (λ ms. map (λ m. MotionBody (motion_from (origin (past_of es) c) m)) ms ++ keys_said after None es c ++ focus_sent (has_focus (past_of es) c) (has_focus after c)) motions
+        ap (λ ms. map (λ m. MotionBody (motion_from (origin (past_of es) c) m)) (under_all (covered (k ∷ marks es) c) ms) ++ keys_said after None es c ++ focus_sent (has_focus (past_of es) c) (has_focus after c)) motions
         ∙ ap₂ (λ xs b. xs ++ focus_sent (has_focus (past_of es) c) b) (outgoing y) focus
         ∙ no_focus (has_focus (past_of es) c)
 
     by_live : (b : Bool) → live after c ≡ b
-        → cond (live after c) (motions_said s e k (origin (past_of es) c) c ++ keys_said after None es c ++ focus_sent (has_focus (past_of es) c) (has_focus after c)) []
+        → cond (live after c) (motions_said s e k (covered (k ∷ marks es) c) (origin (past_of es) c) c ++ keys_said after None es c ++ focus_sent (has_focus (past_of es) c) (has_focus after c)) []
         ≡ []
     by_live true y =
-        ap (λ b. cond b (motions_said s e k (origin (past_of es) c) c ++ keys_said after None es c ++ focus_sent (has_focus (past_of es) c) (has_focus after c)) []) y
+        ap (λ b. cond b (motions_said s e k (covered (k ∷ marks es) c) (origin (past_of es) c) c ++ keys_said after None es c ++ focus_sent (has_focus (past_of es) c) (has_focus after c)) []) y
         ∙ nothing y
     by_live false y =
-        ap (λ b. cond b (motions_said s e k (origin (past_of es) c) c ++ keys_said after None es c ++ focus_sent (has_focus (past_of es) c) (has_focus after c)) []) y
+        ap (λ b. cond b (motions_said s e k (covered (k ∷ marks es) c) (origin (past_of es) c) c ++ keys_said after None es c ++ focus_sent (has_focus (past_of es) c) (has_focus after c)) []) y
 
 -- devices of which nothing is sent
 flat_none : (f : ℕ → List Motion) (ds : List ℕ) → ((d : ℕ) → f d ≡ []) → flat_map f ds ≡ []

@@ -109,6 +109,6 @@ pub delivered_later : length (published_at 9 (finished_with 30 many)).unfinished
 delivered_later = refl
 
 -- a pointer at 300,250 moves in a window whose corner is at 100,200
-pub places_from_the_corner : moves_from (record { x = pos 100; y = pos 200 }) 1 (record { id = 0; at = record { x = pos 300; y = pos 250 } } ∷ [])
-    ≡ MotionBody (move_of 1 (record { id = 0; at = record { x = pos 200; y = pos 50 } } ∷ []))
+pub places_from_the_corner : moves_from (record { x = pos 100; y = pos 200 }) 1 0 (record { id = 0; at = record { x = pos 300; y = pos 250 } } ∷ [])
+    ≡ MotionBody (move_of 1 0 (record { id = 0; at = record { x = pos 200; y = pos 50 } } ∷ []))
 places_from_the_corner = refl

@@ -12,10 +12,10 @@ use Rattle.window_snapshot.specs.Origins.{place_from}
 abbrev pub counted_from : Pixel → List Pointer → List Pointer
 counted_from o ps = map (λ p. record { id = p.id; at = place_from o p.at }) ps
 
--- the Move of pointers of a device
-abbrev pub move_of : (device : ℕ) → List Pointer → Motion
-move_of device ps = record { device = device; action = Move; index = 0; flags = 0; pointers = ps }
+-- the Move of pointers of a device, with these flags
+abbrev pub move_of : (device flags : ℕ) → List Pointer → Motion
+move_of device flags ps = record { device = device; action = Move; index = 0; flags = flags; pointers = ps }
 
 -- the same with their places counted from an origin, as a body
-abbrev pub moves_from : Pixel → (device : ℕ) → List Pointer → Body
-moves_from o device ps = MotionBody (move_of device (counted_from o ps))
+abbrev pub moves_from : Pixel → (device flags : ℕ) → List Pointer → Body
+moves_from o device flags ps = MotionBody (move_of device flags (counted_from o ps))

@@ -149,19 +149,21 @@ impl Channel {
         self.kept.push(body, moment)
     }
 
-    /// The same of the Move of these pointers of a device, with their places counted from an origin. They go straight
-    /// into the list of the messages.
+    /// The same of the Move of these pointers of a device, with these flags, and with their places counted from an
+    /// origin. They go straight into the list of the messages.
     pub fn enqueue_moves(
         &mut self,
         device: DeviceId,
+        flags: u32,
         pointers: &Pointers,
         origin: Pixel,
         moment: Moment,
     )
         requires { 1 ≤ self.old.spare }
-        ensures { self.new ≡ enqueued (moves_from origin device pointers.now) moment self.old }
+        ensures { self.new ≡ enqueued (moves_from origin device flags pointers.now) moment self.old }
     {
-        self.kept.push_moves(device, pointers, origin, moment);
+        self.kept
+            .push_moves(device, flags, pointers, origin, moment);
     }
 
     /// The same of a key message.

@@ -122,20 +122,21 @@ impl Kept {
         seq
     }
 
-    /// Puts the Move of these pointers behind the others, with the next number, and with their places counted from an
-    /// origin.
+    /// Puts the Move of these pointers behind the others, with the next number and these flags, and with their places
+    /// counted from an origin.
     pub(crate) fn push_moves(
         &mut self,
         device: DeviceId,
+        flags: u32,
         pointers: &Pointers,
         origin: Pixel,
         moment: Moment,
     )
         requires { 1 ≤ self.old.spare }
-        ensures { self.new ≡ kept_with (moves_from origin device pointers.now) moment self.old }
+        ensures { self.new ≡ kept_with (moves_from origin device flags pointers.now) moment self.old }
     {
         let seq = self.gone + (self.list.len() - self.dropped) as u64 + 1;
-        push_moves(&mut self.list, seq, moment, device, pointers, origin);
+        push_moves(&mut self.list, seq, moment, device, flags, pointers, origin);
         self.spare -= 1;
     }
 

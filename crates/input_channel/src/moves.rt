@@ -38,40 +38,41 @@ pub(crate) fn push_moves(
     seq: u64,
     moment: Moment,
     device: DeviceId,
+    flags: u32,
     pointers: &Pointers,
     origin: Pixel,
 )
     requires { vec_len list.old < vec_capacity list.old }
     ensures items { list.new.items ≡ list.old.items
-        ++ record { seq = seq; moment = moment; body = moves_from origin device pointers.now } ∷ [] }
+        ++ record { seq = seq; moment = moment; body = moves_from origin device flags pointers.now } ∷ [] }
     ensures len { vec_len list.new ≡ vec_len list.old + 1 }
     ensures capacity { vec_capacity list.new ≡ vec_capacity list.old }
 {
-    let body = Body::Motion(still(device));
+    let body = Body::Motion(still(device, flags));
     let place = list.len();
     list.push_reserved(Message { seq, moment, body });
-    fill(&mut list[place], device, pointers, origin);
+    fill(&mut list[place], device, flags, pointers, origin);
 }
 
 /// The Move of no pointers.
 #[inline(always)]
-fn still(device: DeviceId) -> Motion
-    ensures { result ≡ move_of device [] }
+fn still(device: DeviceId, flags: u32) -> Motion
+    ensures { result ≡ move_of device flags [] }
 {
     Motion {
         device,
         action: MotionAction::Move,
         index: 0,
-        flags: 0,
+        flags,
         pointers: Pointers::empty(),
     }
 }
 
 /// Lists pointers in the message of a Move of none, with their places counted from an origin.
 #[inline(always)]
-fn fill(message: &mut Message, device: DeviceId, pointers: &Pointers, origin: Pixel)
-    requires { message.old.body ≡ MotionBody (move_of device []) }
-    ensures { message.new ≡ record message.old { body = moves_from origin device pointers.now } }
+fn fill(message: &mut Message, device: DeviceId, flags: u32, pointers: &Pointers, origin: Pixel)
+    requires { message.old.body ≡ MotionBody (move_of device flags []) }
+    ensures { message.new ≡ record message.old { body = moves_from origin device flags pointers.now } }
 {
     match &mut message.body {
         Body::Motion(motion) => list_from(&mut motion.pointers, pointers, origin),

@@ -7,6 +7,7 @@ use Rattle.input_types.specs.declared.pointer.Pointer.{Pointer}
 use Rattle.input_types.specs.declared.motion.Motion.{Motion}
 use Rattle.input_types.specs.declared.motion.MotionAction.TheVariants.{Outside}
 use Rattle.window_snapshot.specs.declared.window.Window.{Window}
+use Rattle.routing_rules.specs.Cover.{clear}
 use Rattle.routing_rules.specs.Marks.{Mark}
 use Rattle.routing_rules.specs.Scene.{Scene, Step, Moves, Resets, Pilfers, Shows, Mutes, Removes, NoOp}
 use Rattle.routing_rules.specs.Given.{given, mark, changed}
@@ -111,11 +112,15 @@ same_sent s m w b b' l l' e f = λ k. sent_motion s m (changed m) w (e k) (f k)
 pub same_cancels : (d : ℕ) (last last' : List Pointer) (b b' l l' : ℕ → Bool) → last ≡ last' → b ≡ b' → l ≡ l' → cancels d last b l ≡ cancels d last' b' l'
 same_cancels d last last' b b' l l' e f g = λ k. cancels d (e k) (f k) (g k)
 
+-- a mark without what lies over windows
+abbrev bare : Mark → Mark
+bare k = record { given = k.given; taken = k.taken; cover = λ w. clear }
+
 -- the mark of a change is that of its step
-mark_is : (s : Scene) (e : Step) (n : ℕ) (hs gained : List Hold) (loss : Loss) → IsChange s e n hs gained loss → mark_of s.windows gained loss ≡ mark s e
+mark_is : (s : Scene) (e : Step) (n : ℕ) (hs gained : List Hold) (loss : Loss) → IsChange s e n hs gained loss → mark_of s.windows gained loss ≡ bare (mark s e)
 mark_is s e n hs gained loss x =
     let gains : pairs_of gained ≡ given s e = ap pairs_of x.gains ∙ pairs_of-gained n hs (given s e) in
-    λ k. record { given = gains k; taken = x.loses k }
+    λ k. record { given = gains k; taken = x.loses k; cover = λ w. clear }
 
 -- what is said of a motion is what the rules say
 pub said_of_motion_is : (s : Scene) (m : Motion) (n : ℕ) (hs gained : List Hold) (loss : Loss)

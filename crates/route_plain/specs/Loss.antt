@@ -4,6 +4,7 @@ use Rattle.bits32.specs.Set.{is_in}
 use Rattle.window_snapshot.specs.declared.window.Window.{Window}
 use Rattle.window_snapshot.specs.Mask.{mask_has}
 use Rattle.window_snapshot.specs.Named.{is_named}
+use Rattle.routing_rules.specs.Cover.{clear}
 use Rattle.routing_rules.specs.Marks.{Mark}
 use Rattle.routing_rules.specs.Taking.{Taking, Nothing, Lifted, Emptied, Slipped, Pilfered, Dropped}
 use Rattle.route_plain.specs.declared.hold.Hold.{Hold}
@@ -22,6 +23,6 @@ taking_of windows Unnamed = Dropped (λ w. not (is_named windows w))
 taking_of windows (Mute channels) = Dropped (mask_has channels)
 taking_of windows (Forget channel) = Dropped (λ w. w == channel)
 
--- the mark of a turn that gives these holds and takes this
+-- the mark of a turn that gives these holds and takes this; what lies over windows is left out
 abbrev pub mark_of : List Window → List Hold → Loss → Mark
-mark_of windows gained loss = record { given = pairs_of gained; taken = taking_of windows loss }
+mark_of windows gained loss = record { given = pairs_of gained; taken = taking_of windows loss; cover = λ w. clear }

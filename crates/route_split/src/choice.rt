@@ -33,8 +33,8 @@ pub(crate) fn takers(seen: &Seen, device: DeviceId, at: Pixel) -> u64
     may_take(seen, device, at, targets(seen, device, at))
 }
 
-/// Of the windows of a mask, those that may be given a pointer at a place: they are able to take input, and no window of
-/// another owner blocks them there.
+/// Of the windows of a mask, those that may be given a pointer at a place: they are able to take input, and no window
+/// of another owner blocks them there.
 fn may_take(seen: &Seen, device: DeviceId, at: Pixel, among: u64) -> u64
     ensures { (w : ℕ) → mask_has result w ≡ (mask_has among w && may_take (scene_at seen.now) device at w) }
 {

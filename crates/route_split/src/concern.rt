@@ -8,7 +8,7 @@ use crate::marking::alone;
 use input_types::DeviceId;
 
 /// The mask of the windows that are given a pointer of a device with this mark.
-pub(crate) fn given_windows(mark: &Mark, device: DeviceId) -> u64
+pub fn given_windows(mark: &Mark, device: DeviceId) -> u64
     ensures { (w : ℕ) → mask_has result w ≡ is_given_some mark.now w device }
 {
     match *mark {

@@ -33,6 +33,7 @@ mod slip;
 mod touches;
 mod watching;
 
+pub use concern::given_windows;
 pub use mark::Mark;
 pub use sends::Sends;
 pub use slip::Way;

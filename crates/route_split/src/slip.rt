@@ -87,8 +87,8 @@ fn is_slippery(seen: &Seen, channel: u32) -> bool
         .any(|window| window.channel == channel && window.is_slippery())
 }
 
-/// The slip from a slippery holder to the window at the pointer's position, if that is another one that may be given the
-/// pointer.
+/// The slip from a slippery holder to the window at the pointer's position, if that is another one that may be given
+/// the pointer.
 fn slips_from(seen: &Seen, device: DeviceId, from: u32, pointer: Pointer) -> Option<Way>
     requires slippery { shows (scene_at seen.now) is_slippery from ≡ true }
     requires channel { is_channel from ≡ true }

@@ -128,8 +128,8 @@ impl Touches {
         choice_at(&seen, device, at)
     }
 
-    /// The mask of the targets of a pointer of a device that goes down at a position, able or not. The masks are those of
-    /// the channels that the device can reach, and of those that can take input.
+    /// The mask of the targets of a pointer of a device that goes down at a position, able or not. The masks are those
+    /// of the channels that the device can reach, and of those that can take input.
     pub fn targets(
         &self,
         device: DeviceId,

@@ -16,7 +16,7 @@ abbrev given_to : List Window → List ℕ
 given_to windows = takers (scene windows [] []) 1 (at 0 540 1200).at
 
 -- window 1, with these flags, over window 2 of owner 2
-abbrev over : (owner flags : ℕ) → Occlusion → List Window
+abbrev pub over : (owner flags : ℕ) → Occlusion → List Window
 over o f m = owned o 100 m (window 1 f 0 0 1080 2400) ∷ owned 2 100 Block (window 2 0 0 0 1080 2400) ∷ []
 
 nobody_gets_a_finger_that_is_blocked : given_to (over 1 1 Block) ≡ []
@@ -40,7 +40,7 @@ a_spy_that_blocks_gets_the_finger_alone : given_to (over 1 16 Block) ≡ 1 ∷ [
 a_spy_that_blocks_gets_the_finger_alone = refl
 
 -- two windows whose opacity decides, the first one of owner 1 and 60 per cent, over window 3 of owner 2
-abbrev over_two : (owner opacity : ℕ) → List Window
+abbrev pub over_two : (owner opacity : ℕ) → List Window
 over_two o p =
     owned 1 60 Opacity (window 1 1 0 0 1080 2400) ∷ owned o p Opacity (window 2 1 0 0 1080 2400)
     ∷ owned 2 100 Block (window 3 0 0 0 1080 2400) ∷ []

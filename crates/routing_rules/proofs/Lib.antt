@@ -1,9 +1,13 @@
 pub mod HoldingLaws
 pub mod SinceLaws
 pub mod PilferingLaws
+pub mod CoverLaws
+pub mod ClearLaws
+pub mod UnderLaws
 pub mod Worked
 pub mod Examples
 pub mod Blocked
+pub mod Covered
 pub mod ChoiceRows
 pub mod Listings
 pub mod SentRows

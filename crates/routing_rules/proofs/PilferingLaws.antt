@@ -1,26 +1,28 @@
 -- Pilfering: one step, and the test for it.
-use Rattle.std.proofs.Common.{ℕ, ◌||◌, IsTrue, ◌≡◌, ◌⊎◌, inl, inr, List, [], ◌∷◌, ◌++◌, refl, sym, ap, subst}
+use Rattle.std.proofs.Common.{ℕ, Bool, ◌||◌, IsTrue, ◌≡◌, ◌↔◌, ◌⊎◌, inl, inr, List, [], ◌∷◌, ◌++◌, refl, sym, ap, subst}
 use Rattle.std.proofs.lemmas.Bool.{and_parts, and_from, or_cases, or_left, or_right, true≢false}
 use Rattle.routing_rules.specs.Pairs.{has_any}
 use Rattle.routing_rules.specs.Taking.{pilfers}
 use Rattle.routing_rules.specs.Marks.{Mark, held, pilfering}
-use Rattle.routing_rules.specs.Places.{HoldsAny, HoldsThroughout, IsPilfering}
+use Rattle.routing_rules.specs.Places.{HoldsAny, HoldsThroughout, HoldsSince}
 use Rattle.routing_rules.specs.Laws.{PilferingStep, PilferingLaw}
 use Rattle.routing_rules.proofs.HoldingLaws.{held_any_law}
 
--- one step, by the index of the step that pilfered
-pilfering_step_at : (m : Mark) (before : List Mark) (w d : ℕ) (later : List Mark) (mark : Mark) (rest : List Mark)
-    → m ∷ before ≡ later ++ mark ∷ rest → IsTrue (pilfers mark.taken w d) → HoldsThroughout later (mark ∷ rest) w d
-    → HoldsAny (m ∷ before) w d × (IsTrue (pilfers m.taken w d) ⊎ IsPilfering before w d)
-pilfering_step_at m before w d [] mark rest e p h = (subst (λ xs. HoldsAny xs w d) (sym e) h, inl (cc))
-pilfering_step_at m before w d (x ∷ later) mark rest e p h = (
+-- one step, by the index of the step that did it
+since_step_at : (does : Mark → Bool) (m : Mark) (before : List Mark) (w d : ℕ) (later : List Mark) (mark : Mark) (rest : List Mark)
+    → m ∷ before ≡ later ++ mark ∷ rest → IsTrue (does mark) → HoldsThroughout later (mark ∷ rest) w d
+    → HoldsAny (m ∷ before) w d × (IsTrue (does m) ⊎ HoldsSince does before w d)
+since_step_at does m before w d [] mark rest e p h = (subst (λ xs. HoldsAny xs w d) (sym e) h, inl (cc))
+since_step_at does m before w d (x ∷ later) mark rest e p h = (
   subst (λ xs. HoldsAny xs w d) (sym e) h.0,
   inr (record { later = later; mark = mark; before = rest; whole = cc }, p, h.1),
 )
 
-pub pilfering_step : PilferingStep
-pilfering_step m before w d = (
-  λ s. pilfering_step_at m before w d s.0.later s.0.mark s.0.before s.0.whole s.1 s.2,
+-- a window has held something since a step that did it, after one step more
+pub since_step : (does : Mark → Bool) (m : Mark) (before : List Mark) (w d : ℕ)
+    → HoldsSince does (m ∷ before) w d ↔ (HoldsAny (m ∷ before) w d × (IsTrue (does m) ⊎ HoldsSince does before w d))
+since_step does m before w d = (
+  λ s. since_step_at does m before w d s.0.later s.0.mark s.0.before s.0.whole s.1 s.2,
   λ h.
       elim h.1 [
         | inl p ↦ (record { later = []; mark = m; before = before; whole = refl }, p, h.0)
@@ -31,6 +33,17 @@ pilfering_step m before w d = (
         )
       ],
 )
+
+-- it still holds something
+pub since_holds : (does : Mark → Bool) (ms : List Mark) (w d : ℕ) → HoldsSince does ms w d → HoldsAny ms w d
+since_holds does ms w d s = at s.0.later s.0.whole s.2
+  where
+    at : (later : List Mark) → ms ≡ later ++ s.0.mark ∷ s.0.before → HoldsThroughout later (s.0.mark ∷ s.0.before) w d → HoldsAny ms w d
+    at [] e h = subst (λ xs. HoldsAny xs w d) (sym e) h
+    at (x ∷ later) e h = subst (λ xs. HoldsAny xs w d) (sym e) h.0
+
+pub pilfering_step : PilferingStep
+pilfering_step m before w d = since_step (λ k. pilfers k.taken w d) m before w d
 
 none_pilfers_at : (w d : ℕ) (later : List Mark) (mark : Mark) (rest : List Mark) → [] ≡ later ++ mark ∷ rest → ⊥
 none_pilfers_at w d [] mark rest e = cc

@@ -1,11 +1,14 @@
 -- What a step gives, and what it takes.
 use Rattle.std.specs.Prelude.{ℕ, not, ◌==◌, List, [], ◌∷◌, map, Option, Some, None, slice_get}
+use Rattle.input_types.specs.declared.axis.Pixel.{Pixel}
 use Rattle.input_types.specs.declared.motion.Motion.{Motion}
 use Rattle.input_types.specs.declared.motion.MotionAction.{MotionAction}
 use Rattle.input_types.specs.declared.motion.MotionAction.TheVariants.{Down, Up, Move, Cancel, PointerDown, PointerUp}
 use Rattle.input_types.specs.declared.pointer.Pointer.{Pointer}
+use Rattle.window_snapshot.specs.Occlusion.{is_obscured_at, is_overlapped_on}
 use Rattle.routing_rules.specs.Pairs.{Pair}
 use Rattle.routing_rules.specs.Taking.{Taking, Nothing, Lifted, Emptied, Slipped, Pilfered, Dropped}
+use Rattle.routing_rules.specs.Cover.{Cover, clear, cover_of}
 use Rattle.routing_rules.specs.Marks.{Mark}
 use Rattle.routing_rules.specs.Scene.{Scene, Step, Moves, Resets, Pilfers, Shows, Mutes, Removes, NoOp}
 use Rattle.routing_rules.specs.Choice.{takers}
@@ -61,6 +64,21 @@ taken s (Mutes muted) = Dropped muted
 taken s (Removes w) = Dropped (λ v. v == w)
 taken s NoOp = Nothing
 
--- both together are the mark that the step leaves
+-- what lies over a window at a point of the display of a device
+abbrev pub cover_at : Scene → ℕ → Pixel → ℕ → Cover
+cover_at s d at w =
+    cover_of (is_obscured_at s.windows (s.reach d) at.x at.y w) (is_overlapped_on s.windows (s.reach d) w)
+
+-- what lies over it at a pointer, if there is one
+abbrev pub cover_by : Scene → ℕ → Option Pointer → ℕ → Cover
+cover_by s d None w = clear
+cover_by s d (Some p) w = cover_at s d p.at w
+
+-- what lies over it at the pointer that a step gives
+abbrev pub cover : Scene → Step → ℕ → Cover
+cover s (Moves m) w = cover_by s m.device (changed m) w
+cover s e w = clear
+
+-- all together are the mark that the step leaves
 abbrev pub mark : Scene → Step → Mark
-mark s e = record { given = given s e; taken = taken s e }
+mark s e = record { given = given s e; taken = taken s e; cover = cover s e }

@@ -1,13 +1,17 @@
 -- Proved facts about holding, when it began, and pilfering. Each law is the clause of a function of its own.
-use Rattle.std.specs.Prelude.{ℕ, false, not, ◌&&◌, ◌||◌, IsTrue, ◌≡◌, ◌↔◌, ◌⊎◌, List, [], ◌∷◌, length, filter, Some}
+use Rattle.std.specs.Prelude.{ℕ, true, false, not, ◌&&◌, ◌||◌, IsTrue, ◌≡◌, ◌↔◌, ◌⊎◌, List, [], ◌∷◌, length, filter, Some}
+use Rattle.input_types.specs.declared.motion.Motion.{Motion}
+use Rattle.input_types.specs.declared.pointer.Pointer.{Pointer}
+use Rattle.window_snapshot.specs.Occlusion.{is_blocked_at}
 use Rattle.routing_rules.specs.Pairs.{has, has_any}
 use Rattle.routing_rules.specs.Taking.{takes, pilfers}
-use Rattle.routing_rules.specs.Marks.{Mark, held, since, pilfering}
-use Rattle.routing_rules.specs.Scene.{Scene, Step}
-use Rattle.routing_rules.specs.Given.{taken, mark}
+use Rattle.routing_rules.specs.Cover.{clear, is_behind_another}
+use Rattle.routing_rules.specs.Marks.{Mark, held, since, pilfering, covered}
+use Rattle.routing_rules.specs.Scene.{Scene, Step, Moves}
+use Rattle.routing_rules.specs.Given.{changed, given, taken, cover, mark}
 use Rattle.routing_rules.specs.Outgoing.{after, outgoing}
 use Rattle.routing_rules.specs.Fits.{Fits, Rises, Leaves, down_after, sent_ids, is_motion_of, last_then}
-use Rattle.routing_rules.specs.Places.{Holds, HoldsAny, Begins, IsSince, IsPilfering}
+use Rattle.routing_rules.specs.Places.{Holds, HoldsAny, Begins, IsSince, IsPilfering, IsUnder}
 
 -- After a step a window holds a pointer exactly if the step gives it, or the window held it before and the step does
 -- not take it.
@@ -53,6 +57,39 @@ PilferingStep =
 -- The computed test says who is pilfering.
 abbrev pub PilferingLaw : Type 0
 PilferingLaw = (ms : List Mark) (w d : ℕ) → IsTrue (pilfering ms w d) ↔ IsPilfering ms w d
+
+-- Of a window that holds something, what lay over it is found at the steps that gave it a pointer since it began to.
+abbrev pub CoverLaw : Type 0
+CoverLaw =
+    (ms : List Mark) (w d : ℕ)
+    → HoldsAny ms w d
+    → (IsTrue (covered ms w d).obscured ↔ IsUnder (λ c. c.obscured) ms w d)
+    × (IsTrue (covered ms w d).partly ↔ IsUnder (λ c. c.partly) ms w d)
+
+-- While a window holds something, what lay over it stays so.
+abbrev pub CoverGrows : Type 0
+CoverGrows =
+    (m : Mark) (before : List Mark) (w d : ℕ)
+    → has_any (held before) w d ≡ true
+    → ((covered before w d).obscured ≡ true → (covered (m ∷ before) w d).obscured ≡ true)
+    × ((covered before w d).partly ≡ true → (covered (m ∷ before) w d).partly ≡ true)
+
+-- A window that is given a pointer while it holds none has what lies over it there alone.
+abbrev pub CoverBegins : Type 0
+CoverBegins =
+    (m : Mark) (before : List Mark) (w d : ℕ)
+    → has_any m.given w d ≡ true → has_any (held before) w d ≡ false → covered (m ∷ before) w d ≡ m.cover w
+
+-- Nothing lies over a window if no window of another owner stands in front of it.
+abbrev pub ClearLaw : Type 0
+ClearLaw = (s : Scene) (e : Step) (w : ℕ) → is_behind_another s.windows w ≡ false → cover s e w ≡ clear
+
+-- A window that is blocked where a pointer is given is not given it.
+abbrev pub BlockedLaw : Type 0
+BlockedLaw =
+    (s : Scene) (m : Motion) (p : Pointer) (w i : ℕ)
+    → changed m ≡ Some p → has (given s (Moves m)) w m.device i ≡ true
+    → is_blocked_at s.windows (s.reach m.device) p.at.x p.at.y w ≡ false
 
 -- What a window is sent for a device at a step may follow what it was sent before. The window then knows exactly the
 -- ids down on the device that it holds after the step.

@@ -1,5 +1,6 @@
 pub mod Pairs
 pub mod Taking
+pub mod Cover
 pub mod Marks
 pub mod Places
 pub mod Laws

@@ -2,11 +2,13 @@
 use Rattle.std.specs.Prelude.{ℕ, Bool, false, not, ◌&&◌, ◌||◌, if◌then◌else◌, List, [], ◌∷◌, ◌++◌, length, filter}
 use Rattle.routing_rules.specs.Pairs.{Pair, has_any}
 use Rattle.routing_rules.specs.Taking.{Taking, takes, pilfers}
+use Rattle.routing_rules.specs.Cover.{Cover, clear, both}
 
--- the mark of a step: what it gives, and what it takes
+-- the mark of a step: what it gives, what it takes, and what lies over each window where it gives
 pub record Mark : Type 0 where
   pub given : List Pair
   pub taken : Taking
+  pub cover : ℕ → Cover
 
 -- the pairs that remain after a step
 abbrev pub kept : Taking → List Pair → List Pair
@@ -31,3 +33,11 @@ since (m ∷ before) w d = if begins m before w d then length before else since 
 abbrev pub pilfering : List Mark → ℕ → ℕ → Bool
 pilfering [] w d = false
 pilfering (m ∷ before) w d = has_any (held (m ∷ before)) w d && (pilfers m.taken w d || pilfering before w d)
+
+-- What lay over window w at the steps that gave it a pointer of device d, since it began to hold one. It stays until a
+-- step gives the window a pointer when it holds none, with which it begins anew.
+abbrev pub covered : List Mark → ℕ → ℕ → Cover
+covered [] w d = clear
+covered (m ∷ before) w d =
+    if has_any m.given w d then (if has_any (held before) w d then both (m.cover w) (covered before w d) else m.cover w)
+    else covered before w d

@@ -1,7 +1,8 @@
 -- The same three notions as facts about indices: a step does it, and no later step undoes it.
-use Rattle.std.specs.Prelude.{ℕ, false, IsTrue, ◌≡◌, List, [], ◌∷◌, ◌++◌, length}
-use Rattle.routing_rules.specs.Pairs.{has}
+use Rattle.std.specs.Prelude.{ℕ, Bool, false, IsTrue, ◌&&◌, ◌≡◌, List, [], ◌∷◌, ◌++◌, length}
+use Rattle.routing_rules.specs.Pairs.{has, has_any}
 use Rattle.routing_rules.specs.Taking.{takes, pilfers}
+use Rattle.routing_rules.specs.Cover.{Cover}
 use Rattle.routing_rules.specs.Marks.{Mark}
 
 -- an index among the marks, newest first: the later ones, the mark at the index, and those before it
@@ -43,7 +44,15 @@ abbrev pub HoldsThroughout : List Mark → List Mark → ℕ → ℕ → Type 0
 HoldsThroughout [] before w d = HoldsAny before w d
 HoldsThroughout (m ∷ later) before w d = HoldsAny (m ∷ (later ++ before)) w d × HoldsThroughout later before w d
 
+-- window w has held a pointer of device d since a step that does this, and after it
+abbrev pub HoldsSince : (does : Mark → Bool) → List Mark → ℕ → ℕ → Type 0
+HoldsSince does ms w d = (at : Place ms) × IsTrue (does at.mark) × HoldsThroughout at.later (at.mark ∷ at.before) w d
+
 -- window w is pilfering device d: it pilfered it at some step, and has held a pointer of it after each step since
 abbrev pub IsPilfering : List Mark → ℕ → ℕ → Type 0
-IsPilfering ms w d =
-    (at : Place ms) × IsTrue (pilfers at.mark.taken w d) × HoldsThroughout at.later (at.mark ∷ at.before) w d
+IsPilfering ms w d = HoldsSince (λ m. pilfers m.taken w d) ms w d
+
+-- A step gave window w a pointer of device d where what lay over the window passes the test, and the window has held a
+-- pointer of it after each step since.
+abbrev pub IsUnder : (test : Cover → Bool) → List Mark → ℕ → ℕ → Type 0
+IsUnder test ms w d = HoldsSince (λ m. has_any m.given w d && test (m.cover w)) ms w d

@@ -1,6 +1,6 @@
 //! Proved facts about who holds what, and about what windows are sent. Each function has the laws as its clauses, and
 //! does nothing.
-ghost use Rattle.routing_rules.specs.Laws.{HoldsStep, HeldStep, HeldLaw, HeldAnyLaw, SinceStep, SinceLaw, PilferingStep, PilferingLaw, SentLaw, QuietLaw, FitsStep};
+ghost use Rattle.routing_rules.specs.Laws.{HoldsStep, HeldStep, HeldLaw, HeldAnyLaw, SinceStep, SinceLaw, PilferingStep, PilferingLaw, CoverLaw, CoverGrows, CoverBegins, ClearLaw, BlockedLaw, SentLaw, QuietLaw, FitsStep};
 
 /// Who holds a pointer: some step gave it, and no later one took it. The list of pairs, computed step by step, says
 /// exactly this.
@@ -22,6 +22,17 @@ pub fn beginning()
 pub fn pilfering()
     ensures step { PilferingStep }
     ensures test { PilferingLaw }
+{}
+
+/// What lay over a window where it was given pointers. It grows while the window holds something and begins anew with
+/// the next pointer, and nothing lies over a window that no window of another owner stands in front of. A window that
+/// is blocked is given no pointer.
+pub fn covering()
+    ensures places { CoverLaw }
+    ensures grows { CoverGrows }
+    ensures begins { CoverBegins }
+    ensures clear { ClearLaw }
+    ensures blocked { BlockedLaw }
 {}
 
 /// What a window is sent at a step may follow what it was sent before, by the rule of streams, and the window then

@@ -2,8 +2,8 @@
 ghost use Rattle.std.specs.Prelude.{◌≡◌, ◌≤◌, true};
 ghost use Rattle.bits32.specs.Set.{is_in};
 ghost use Rattle.input_types.specs.declared.message.Body.TheVariants.{Motion as MotionBody};
-ghost use Rattle.input_types.specs.declared.motion.MotionAction.TheVariants.{Move};
-ghost use Rattle.routing_rules.specs.Outgoing.{listing, plain};
+ghost use Rattle.routing_rules.specs.Outgoing.{listing};
+ghost use Rattle.input_channel.specs.Moves.{move_of};
 ghost use Rattle.window_snapshot.specs.Mask.{mask_has};
 ghost use Rattle.dispatch_channels.specs.Table.{channel_of};
 ghost use Rattle.dispatch_channels.specs.Changes.{Sends};
@@ -14,13 +14,14 @@ use input_types::{DeviceId, Moment, Pixel};
 use split_motion::PointersById;
 
 impl Channels {
-    /// A live channel is told that pointers of a device move, those of a motion that have these ids, as `send` would
-    /// tell it. The places go from the motion into what the window was sent, and from there straight into the message.
-    /// Takes no memory.
+    /// A live channel is told that pointers of a device move, those of a motion that have these ids, with these flags,
+    /// as `send` would tell it. The places go from the motion into what the window was sent, and from there straight
+    /// into the message. Takes no memory.
     pub fn send_moves(
         &mut self,
         channel: u32,
         device: DeviceId,
+        flags: u32,
         pointers: &PointersById,
         ids: Bits32,
         origin: Pixel,
@@ -29,11 +30,11 @@ impl Channels {
         requires live { mask_has self.old.live channel ≡ true }
         requires room { 1 ≤ (channel_of self.old channel).spare }
         ensures { let moving = listing (λ i. is_in i ids) pointers.now in
-            Sends channel (MotionBody (plain device Move moving)) origin clock self.old self.new }
+            Sends channel (MotionBody (move_of device flags moving)) origin clock self.old self.new }
     {
         let place = channel as usize - 1;
         self.inputs[place].track_moves(device, pointers, ids);
         let moving = self.inputs[place].pointers(device);
-        self.channels[place].enqueue_moves(device, moving, origin, clock);
+        self.channels[place].enqueue_moves(device, flags, moving, origin, clock);
     }
 }

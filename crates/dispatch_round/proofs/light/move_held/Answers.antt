@@ -1,12 +1,14 @@
-use Rattle.std.proofs.Common.{ℕ, Bool, ◌≡◌, [], ◌∷◌, map, sym, ap₂, ◌∙◌, subst}
+use Rattle.std.proofs.Common.{ℕ, Bool, ◌≡◌, [], ◌∷◌, List, sym, ap₂, ◌∙◌, subst}
 use mathlib.Core.Path.{fun_ext}
 use Rattle.bits32.specs.Set.{is_in}
-use Rattle.input_types.specs.declared.message.Body.TheVariants.{Motion as MotionBody}
+use Rattle.input_types.specs.declared.motion.Motion.{Motion}
 use Rattle.input_types.specs.declared.motion.MotionAction.TheVariants.{Move}
 use Rattle.routing_rules.specs.Outgoing.{listing, plain, moves}
 use Rattle.route_split.specs.Tables.{holds_at}
+use Rattle.dispatch_round.specs.Bodies.{told}
 use Rattle.dispatch_round.specs.Saying.{SendsOne}
-use Rattle.dispatch_round.proofs.Saying.{sends_none, sends_one}
+use Rattle.dispatch_round.proofs.Saying.{sends_none}
+use Rattle.dispatch_round.proofs.Telling.{sends_moves}
 use Rattle.dispatch_round.proofs.MoveLaws.{some_moves, none_moves}
 use Rattle.dispatch_round.proofs.light.move_held.Goals as goal
 
@@ -18,8 +20,8 @@ returns-then-has_some c =
     let same : held ≡ holds_at c.args.touches.now c.args.to.now.window m.device = fun_ext c.held-held.ensures in
     let says : plain m.device Move (listing held ps) ∷ [] ≡ moves m.device (listing (holds_at c.args.touches.now c.args.to.now.window m.device) m.pointers) =
     sym (some_moves held m.device ps (sym c.has_some.ensures ∙ c.if-has_some.true)) ∙ ap₂ (λ f xs. moves m.device (listing f xs)) same c.requires.pointers in
-    subst (λ ms. SendsOne c.args.to.now (map MotionBody ms) c.args.channels.now c.send_moves.new.self) says
-    (sends_one c.args.to.now (MotionBody (plain m.device Move (listing held ps))) _ _ c.send_moves.ensures c.requires.room.opened)
+    subst (λ (ms : List Motion). SendsOne c.args.to.now (told c.args.to.now.covers.now c.args.to.now.window ms) c.args.channels.now c.send_moves.new.self) says
+    (sends_moves c.args.to.now m.device c.flags.result (listing held ps) _ _ c.flags.ensures c.send_moves.ensures c.requires.room.opened)
 
 pub returns-else-has_some : goal.returns-else-has_some
 returns-else-has_some c =
@@ -27,6 +29,6 @@ returns-else-has_some c =
     let ps = c.args.pointers.now in
     let held : ℕ → Bool = λ i. is_in i c.held-held.result in
     let same : held ≡ holds_at c.args.touches.now c.args.to.now.window m.device = fun_ext c.held-held.ensures in
-    subst (λ ms. SendsOne c.args.to.now (map MotionBody ms) c.args.channels.now c.args.channels.now)
+    subst (λ (ms : List Motion). SendsOne c.args.to.now (told c.args.to.now.covers.now c.args.to.now.window ms) c.args.channels.now c.args.channels.now)
     (sym (none_moves held m.device ps (sym c.has_some.ensures ∙ c.if-has_some.false)) ∙ ap₂ (λ f xs. moves m.device (listing f xs)) same c.requires.pointers)
     (sends_none c.args.to.now c.args.channels.now)

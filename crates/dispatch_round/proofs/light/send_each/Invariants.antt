@@ -9,7 +9,7 @@ use Rattle.dispatch_round.proofs.light.send_each.Given as goal
 abbrev pub invariant-loop-rest : goal.invariant-loop-rest
 invariant-loop-rest l =
     ((w : ℕ) → mask_has l.rest w ≡ true → mask_has l.outgoing w ≡ true)
-    × HearsEach l.round l.touches None (reached l.outgoing l.rest) l.origins l.clock l.initial.channels l.channels
+    × HearsEach l.covers l.round l.touches None (reached l.outgoing l.rest) l.origins l.clock l.initial.channels l.channels
     × ((w : ℕ) → reached l.outgoing l.rest w ≡ true → SpendsLight l.round l.initial.channels l.channels w)
 
 abbrev pub decreases-loop-rest : goal.decreases-loop-rest

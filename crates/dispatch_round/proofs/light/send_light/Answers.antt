@@ -24,7 +24,7 @@ returns-clause-outgoing c s e h holds =
       holds_are = λ w d i. (still_rests ts r c.args.place c.requires.light c.rest.ensures d).hold w i;
       losses_are = tt;
     } in
-    sends_all s e r ts ts None c.args.outgoing c.args.origins.now c.args.clock c.args.channels.now c.send_each.new.channels c.publish.new.self
+    sends_all c.args.covers.now s e r ts ts None c.args.outgoing c.args.origins.now c.args.clock c.args.channels.now c.send_each.new.channels c.publish.new.self
     (is_whole r c.requires.light) c.requires.outgoing.are c.send_each.ensures.each c.publish.ensures by h holds
 
 pub returns-clause-gone : goal.returns-clause-gone
@@ -41,7 +41,7 @@ returns-clause-spends c w has =
 
 pub returns-clause-left : goal.returns-clause-left
 returns-clause-left c w from out =
-    published_left c.args.round.now _ _ c.args.outgoing c.args.origins.now c.args.clock c.args.channels.now c.send_each.new.channels c.publish.new.self c.send_each.ensures.each c.publish.ensures w
+    published_left c.args.covers.now c.args.round.now _ _ c.args.outgoing c.args.origins.now c.args.clock c.args.channels.now c.send_each.new.channels c.publish.new.self c.send_each.ensures.each c.publish.ensures w
     from out
 
 pub returns-clause-live : goal.returns-clause-live

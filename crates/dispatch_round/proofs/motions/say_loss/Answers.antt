@@ -1,11 +1,11 @@
-use Rattle.std.proofs.Common.{ℕ, Bool, List, not, map, length, ap, ap₂, ◌∙◌, subst, arith}
+use Rattle.std.proofs.Common.{ℕ, Bool, List, not, length, ap, ap₂, ◌∙◌, subst, arith}
 use mathlib.Core.Path.{fun_ext}
 use Rattle.bits32.specs.Set.{is_in}
-use Rattle.input_types.specs.declared.message.Body.TheVariants.{Motion as MotionBody}
 use Rattle.input_types.specs.declared.motion.Motion.{Motion}
 use Rattle.cancel_synthesis.specs.Cancelling.{still_sent}
 use Rattle.cancel_synthesis.specs.Ends.{pointers_cancelled}
 use Rattle.cancel_synthesis.specs.Tracked.{Tracked, pointers_of}
+use Rattle.dispatch_round.specs.Bodies.{told}
 use Rattle.dispatch_round.specs.Saying.{SendsOne}
 use Rattle.dispatch_round.proofs.Stepping.{few_cancels}
 use Rattle.dispatch_round.proofs.motions.say_loss.Goals as goal
@@ -22,7 +22,7 @@ say_cancels-requires c =
 pub returns : goal.returns
 returns c =
     let d = c.args.device in
-    subst (λ (ms : List Motion). SendsOne c.args.to.now (map MotionBody ms) c.args.channels.now c.say_cancels.new.channels)
+    subst (λ (ms : List Motion). SendsOne c.args.to.now (told c.args.to.now.covers.now c.args.to.now.window ms) c.args.channels.now c.say_cancels.new.channels)
     (c.cancels_but-cancels.ensures
     ∙ ap₂ (λ (f : ℕ → Bool) (i : Tracked). pointers_cancelled d f (pointers_of i d)) (fun_ext (λ i. ap not (c.held-held.ensures i))) c.input.ensures)
     c.say_cancels.ensures

@@ -1,7 +1,7 @@
-use Rattle.std.proofs.Common.{ℕ, List, map, flat_map, refl, arith}
-use Rattle.input_types.specs.declared.message.Body.TheVariants.{Motion as MotionBody}
+use Rattle.std.proofs.Common.{ℕ, List, flat_map, refl, arith}
 use Rattle.routing_rules.specs.Outgoing.{devices}
 use Rattle.dispatch_channels.specs.Table.{input_of}
+use Rattle.dispatch_round.specs.Bodies.{told}
 use Rattle.dispatch_round.specs.Saying.{losses}
 use Rattle.dispatch_round.proofs.Stepping.{say_rest, room_for_device, losses_next}
 use Rattle.dispatch_round.proofs.motions.say_losses.Goals as goal
@@ -21,5 +21,5 @@ devices-preserved c =
 pub returns : goal.returns
 returns c =
     c.devices.invariant.2 c.devices.channels
-    (say_rest c.args.to.now (λ (ds : List ℕ). map MotionBody (flat_map (losses c.args.touches.now c.args.to.now.window (input_of c.args.channels.now c.args.to.now.window)) ds)) devices
+    (say_rest c.args.to.now (λ (ds : List ℕ). told c.args.to.now.covers.now c.args.to.now.window (flat_map (losses c.args.touches.now c.args.to.now.window (input_of c.args.channels.now c.args.to.now.window)) ds)) devices
     c.devices.place c.devices.channels (omega (arith, c.devices-test.false)) refl)

@@ -1,8 +1,8 @@
-use Rattle.std.proofs.Common.{◌≡◌, ℕ, ◌<◌, drop, map, flat_map}
-use Rattle.input_types.specs.declared.message.Body.TheVariants.{Motion as MotionBody}
+use Rattle.std.proofs.Common.{◌≡◌, ℕ, ◌<◌, drop, flat_map}
 use Rattle.routing_rules.specs.Outgoing.{devices}
 use Rattle.cancel_synthesis.specs.Tracked.{pointers_of}
 use Rattle.dispatch_channels.specs.Table.{Table, input_of}
+use Rattle.dispatch_round.specs.Bodies.{told}
 use Rattle.dispatch_round.specs.Rounds.{count_of}
 use Rattle.dispatch_round.specs.Saying.{CanHear, SendsOne, losses}
 use Rattle.dispatch_round.proofs.motions.say_losses.Given as goal
@@ -13,5 +13,5 @@ invariant-devices l =
     CanHear l.to.window (count_of (input_of l.initial.channels l.to.window) (drop l.place devices)) l.channels
     × ((d : ℕ) → l.place < d → pointers_of (input_of l.channels l.to.window) d ≡ pointers_of (input_of l.initial.channels l.to.window) d)
     × ((u : Table)
-    → SendsOne l.to (map MotionBody (flat_map (losses l.touches l.to.window (input_of l.initial.channels l.to.window)) (drop l.place devices))) l.channels u
-    → SendsOne l.to (map MotionBody (flat_map (losses l.touches l.to.window (input_of l.initial.channels l.to.window)) devices)) l.initial.channels u)
+    → SendsOne l.to (told l.to.covers.now l.to.window (flat_map (losses l.touches l.to.window (input_of l.initial.channels l.to.window)) (drop l.place devices))) l.channels u
+    → SendsOne l.to (told l.to.covers.now l.to.window (flat_map (losses l.touches l.to.window (input_of l.initial.channels l.to.window)) devices)) l.initial.channels u)

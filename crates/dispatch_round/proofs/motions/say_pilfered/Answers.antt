@@ -1,12 +1,12 @@
-use Rattle.std.proofs.Common.{ℕ, List, map, length, sym, ap, ap₂, ◌∙◌, subst, arith}
+use Rattle.std.proofs.Common.{ℕ, List, length, sym, ap, ap₂, ◌∙◌, subst, arith}
 use Rattle.bits32.specs.Set.{is_in}
-use Rattle.input_types.specs.declared.message.Body.TheVariants.{Motion as MotionBody}
 use Rattle.input_types.specs.declared.motion.Motion.{Motion}
 use Rattle.cancel_synthesis.specs.Cancelling.{still_sent}
 use Rattle.cancel_synthesis.specs.Ends.{pointers_cancelled}
 use Rattle.cancel_synthesis.specs.Tracked.{Tracked, pointers_of}
 use Rattle.route_split.specs.declared.mark.Mark.{Mark}
 use Rattle.dispatch_channels.specs.Table.{input_of}
+use Rattle.dispatch_round.specs.Bodies.{told}
 use Rattle.dispatch_round.specs.Saying.{SendsOne, pilfered_from}
 use Rattle.dispatch_round.proofs.Stepping.{few_cancels}
 use Rattle.dispatch_round.proofs.Cancelling.{one_counted}
@@ -25,7 +25,7 @@ say_cancels-requires c =
 pub returns-in-Pilfer : goal.returns-in-Pilfer
 returns-in-Pilfer c =
     let d = c.in-Pilfer.device in
-    subst (λ (ms : List Motion). SendsOne c.args.to.now (map MotionBody ms) c.args.channels.now c.say_cancels.new.channels)
+    subst (λ (ms : List Motion). SendsOne c.args.to.now (told c.args.to.now.covers.now c.args.to.now.window ms) c.args.channels.now c.say_cancels.new.channels)
     (c.cancels-cancels.ensures
     ∙ ap₂ (λ (n : ℕ) (i : Tracked). pointers_cancelled d (λ j. is_in j n) (pointers_of i d)) c.lost-lost.ensures c.input.ensures
     ∙ sym (ap (λ (k : Mark). pilfered_from k c.args.losses.now c.args.to.now.window (input_of c.args.channels.now c.args.to.now.window)) c.in-Pilfer.is))

@@ -1,6 +1,10 @@
-use Rattle.input_types.specs.declared.message.Body.TheVariants.{Motion as MotionBody}
-use Rattle.dispatch_round.proofs.Saying.{sends_one}
+use Rattle.window_covers.specs.Covers.{cover_in}
+use Rattle.dispatch_round.proofs.Telling.{sends_told}
 use Rattle.dispatch_round.proofs.say.say_motion.Goals as goal
 
 pub returns : goal.returns
-returns c = sends_one c.args.to.now (MotionBody c.args.motion.now) _ _ c.send_motion.ensures c.requires.opened
+returns c =
+    let to = c.args.to.now in
+    let m = c.args.motion.now in
+    sends_told to m c.flags_under-flags.result _ _ (c.flags_under-flags.ensures (cover_in to.covers.now to.window m.device) c.flags-cover.ensures)
+    c.send_motion.ensures c.requires.opened

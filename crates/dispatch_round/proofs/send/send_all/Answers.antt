@@ -24,7 +24,7 @@ returns-clause-outgoing c s e h holds =
       holds_are = λ w d i. (c.change_and_send.ensures.changes d).hold w i;
       losses_are = outgoing.losses_are;
     } in
-    sends_all s e c.args.round.now c.args.touches.now c.change_and_send.new.touches outgoing.losses c.args.outgoing c.args.origins.now c.args.clock c.args.channels.now
+    sends_all c.args.covers.now s e c.args.round.now c.args.touches.now c.change_and_send.new.touches outgoing.losses c.args.outgoing c.args.origins.now c.args.clock c.args.channels.now
     c.change_and_send.new.channels c.publish.new.self c.requires.whole c.requires.outgoing.are outgoing.hears c.publish.ensures by h holds
 
 pub returns-clause-gone : goal.returns-clause-gone
@@ -41,7 +41,7 @@ returns-clause-spends c w has =
 
 pub returns-clause-left : goal.returns-clause-left
 returns-clause-left c w from out =
-    published_left c.args.round.now _ _ c.args.outgoing c.args.origins.now c.args.clock c.args.channels.now c.change_and_send.new.channels c.publish.new.self c.change_and_send.ensures.outgoing.hears c.publish.ensures w
+    published_left c.args.covers.now c.args.round.now _ _ c.args.outgoing c.args.origins.now c.args.clock c.args.channels.now c.change_and_send.new.channels c.publish.new.self c.change_and_send.ensures.outgoing.hears c.publish.ensures w
     from out
 
 pub returns-clause-live : goal.returns-clause-live

@@ -17,7 +17,9 @@ loop-rest-preserved c =
     let within : k - 1 < length c.args.origins.now = omega (arith, c.first_of-window.ensures.from, c.first_of-window.ensures.to, c.told-origins) in
     rw c.without-rest.ensures (
       rest_within c.args.outgoing c.loop-rest.rest k has c.loop-rest.invariant.0,
-      each_next c.args.round.now c.args.touches.now (option_copied c.args.losses) c.args.outgoing c.loop-rest.rest k _ c.args.origins.now c.args.clock c.args.channels.now c.loop-rest.channels c.send_one.new.channels
+      each_next c.args.round.now c.args.touches.now (option_copied c.args.losses) c.args.outgoing c.loop-rest.rest
+          (record { window = k; origin = _; clock = c.args.clock; covers = c.args.covers })
+          c.args.origins.now c.args.channels.now c.loop-rest.channels c.send_one.new.channels
           has
           is
           (c.requires.live k is)
@@ -28,5 +30,5 @@ loop-rest-preserved c =
 
 pub returns : goal.returns
 returns c =
-    each_last c.args.round.now c.args.touches.now (option_copied c.args.losses) c.args.outgoing c.loop-rest.rest c.args.origins.now c.args.clock c.args.channels.now c.loop-rest.channels
+    each_last c.args.covers.now c.args.round.now c.args.touches.now (option_copied c.args.losses) c.args.outgoing c.loop-rest.rest c.args.origins.now c.args.clock c.args.channels.now c.loop-rest.channels
     c.loop-rest-test.false c.loop-rest.invariant.1

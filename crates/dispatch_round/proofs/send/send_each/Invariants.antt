@@ -9,7 +9,7 @@ use Rattle.dispatch_round.proofs.send.send_each.Given as goal
 abbrev pub invariant-loop-rest : goal.invariant-loop-rest
 invariant-loop-rest l =
     ((w : ℕ) → mask_has l.rest w ≡ true → mask_has l.outgoing w ≡ true)
-    × HearsEach l.round l.touches (option_copied l.losses) (reached l.outgoing l.rest) l.origins l.clock l.initial.channels l.channels
+    × HearsEach l.covers l.round l.touches (option_copied l.losses) (reached l.outgoing l.rest) l.origins l.clock l.initial.channels l.channels
 
 abbrev pub decreases-loop-rest : goal.decreases-loop-rest
 decreases-loop-rest l = l.rest

@@ -17,7 +17,7 @@ returns c =
     ∙ get_or_push xs m c.index_mut.result.now c.len-place.result (sym long) in
     let filled =
     c.fill.ensures
-    ∙ ap (λ (x : Message). let y : Message = record x { body = moves_from c.args.origin c.args.device c.args.pointers.now } in y) at in
+    ∙ ap (λ (x : Message). let y : Message = record x { body = moves_from c.args.origin c.args.device c.args.flags c.args.pointers.now } in y) at in
     record {
       items =
           ap (λ ms. set ms c.len-place.result c.fill.new.message) c.push_reserved.ensures.items

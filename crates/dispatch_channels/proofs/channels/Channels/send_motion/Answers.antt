@@ -1,10 +1,11 @@
 use Rattle.std.proofs.Common.{◌<◌, ◌≤◌, ◌-◌, length, ap, ◌∙◌, arith}
 use Rattle.std.proofs.lemmas.List.{get_or_default, length-set}
 use Rattle.input_types.specs.declared.message.Body.TheVariants.{Motion as MotionBody}
+use Rattle.routing_rules.specs.Cover.{with_flags}
 use Rattle.dispatch_tables.specs.Dues.{due_in}
 use Rattle.dispatch_channels.proofs.Picking.{channel_low}
 use Rattle.dispatch_channels.proofs.Wholes.{whole_kept}
-use Rattle.dispatch_channels.proofs.Outgoing.{sends}
+use Rattle.dispatch_channels.proofs.Outgoing.{sends, tracked_with}
 use Rattle.dispatch_channels.proofs.channels.Channels.send_motion.Goals as goal
 
 pub invariant_of-self : goal.invariant_of-self
@@ -34,7 +35,7 @@ returns c =
     let within : c.args.channel - 1 < length c.self.inside.inputs.items =
     omega (arith, low, high, c.self.invariant.as_many) in
     rw (← c.self.view_is)
-    (sends _ c.args.channel (MotionBody c.args.motion.now) (MotionBody c.motion_from.result) c.args.origin c.args.clock
+    (sends _ c.args.channel (MotionBody (with_flags c.args.flags c.args.motion.now)) (MotionBody c.motion_from.result) c.args.origin c.args.clock
     c.index_mut.result.now
     c.enqueue_reserved-seq.new.self
     c.index_mut-2.result.now
@@ -43,5 +44,5 @@ returns c =
     (ap MotionBody c.motion_from.ensures)
     c.enqueue_reserved-seq.ensures.state
     (c.index_mut-2.ensures.value ∙ get_or_default _ _ _ _ within)
-    c.track_motion.ensures
+    (tracked_with c.args.flags c.args.motion.now c.index_mut-2.result.now c.track_motion.new.self c.track_motion.ensures)
     within)

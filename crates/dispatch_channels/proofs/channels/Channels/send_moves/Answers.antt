@@ -1,15 +1,14 @@
 use Rattle.std.proofs.Common.{◌≡◌, ◌<◌, ◌≤◌, ◌-◌, length, ap, ◌∙◌, arith}
 use Rattle.std.proofs.lemmas.List.{get_or_default, get_or-set_same, length-set}
 use Rattle.input_types.specs.declared.message.Body.TheVariants.{Motion as MotionBody}
-use Rattle.input_types.specs.declared.motion.MotionAction.TheVariants.{Move}
 use Rattle.bits32.specs.Set.{is_in}
-use Rattle.routing_rules.specs.Outgoing.{listing, plain}
+use Rattle.routing_rules.specs.Outgoing.{listing}
 use Rattle.dispatch_tables.specs.Dues.{due_in}
 use Rattle.cancel_synthesis.specs.Tracked.{pointers_of}
-use Rattle.input_channel.specs.Moves.{moves_from}
+use Rattle.input_channel.specs.Moves.{move_of, moves_from}
 use Rattle.dispatch_channels.proofs.Picking.{channel_low}
 use Rattle.dispatch_channels.proofs.Wholes.{whole_kept}
-use Rattle.dispatch_channels.proofs.Outgoing.{moved, sends}
+use Rattle.dispatch_channels.proofs.Outgoing.{moved, sends, tracked_flagged}
 use Rattle.dispatch_channels.proofs.channels.Channels.send_moves.Goals as goal
 
 pub invariant_of-self : goal.invariant_of-self
@@ -43,14 +42,14 @@ returns c =
     let again : c.index.result.now ≡ c.track_moves.new.self =
     c.index.ensures ∙ get_or-set_same c.self.inside.inputs.items (c.args.channel - 1) c.track_moves.new.self _ within in
     rw (← c.self.view_is)
-    (sends _ c.args.channel (MotionBody (plain device Move moving)) (moves_from c.args.origin device c.pointers-moving.result.now) c.args.origin c.args.clock
+    (sends _ c.args.channel (MotionBody (move_of device c.args.flags moving)) (moves_from c.args.origin device c.args.flags c.pointers-moving.result.now) c.args.origin c.args.clock
     c.index_mut-2.result.now
     c.enqueue_moves.new.self
     c.index_mut.result.now
     c.track_moves.new.self
     (c.index_mut-2.ensures.value ∙ get_or_default _ _ _ _ there)
-    (ap (moves_from c.args.origin device) (c.pointers-moving.ensures ∙ ap (λ j. pointers_of j device) again ∙ moved device moving c.index_mut.result.now c.track_moves.new.self c.track_moves.ensures))
+    (ap (moves_from c.args.origin device c.args.flags) (c.pointers-moving.ensures ∙ ap (λ j. pointers_of j device) again ∙ moved device moving c.index_mut.result.now c.track_moves.new.self c.track_moves.ensures))
     c.enqueue_moves.ensures
     (c.index_mut.ensures.value ∙ get_or_default _ _ _ _ within)
-    c.track_moves.ensures
+    (tracked_flagged device c.args.flags moving c.index_mut.result.now c.track_moves.new.self c.track_moves.ensures)
     within)
