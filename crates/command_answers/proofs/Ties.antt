@@ -5,8 +5,8 @@ use Rattle.input_types.specs.declared.message.Message.{Message as Told}
 use Rattle.input_types.specs.StreamRule.{is_well_formed}
 use Rattle.stream_text.specs.declared.stream_line.StreamLine.{StreamLine}
 use Rattle.stream_text.specs.declared.stream_line.StreamLine.TheVariants.{Channel, Message, End, Anr}
-use Rattle.stream_text.specs.declared.stream_lines.Place.{Place}
-use Rattle.stream_text.specs.declared.stream_lines.Place.TheVariants.{Between, Section, Anrs}
+use Rattle.stream_text.specs.declared.reading.stream_lines.Place.{Place}
+use Rattle.stream_text.specs.declared.reading.stream_lines.Place.TheVariants.{Between, Section, Anrs}
 use Rattle.stream_text.specs.Number.{◌>>=◌}
 use Rattle.text_lines.specs.Lines.{Line, lines_of}
 use Rattle.stream_text.specs.StreamLine.{line_of}

@@ -6,7 +6,6 @@ use Rattle.dispatch_calls.specs.declared.call.Call.{Call}
 use Rattle.dispatch_calls.specs.declared.call.Call.TheVariants.{Pump, Receive}
 use Rattle.dispatch_calls.specs.declared.reply.Reply.{Reply}
 use Rattle.dispatch_calls.specs.declared.reply.Reply.TheVariants.{Idle}
-use Rattle.dispatch_channels.specs.Table.{but_for_room}
 use Rattle.dispatch_history.specs.Effect.{Effect, past_of}
 use Rattle.dispatch_history.specs.Effects.{step}
 use Rattle.dispatch_history.specs.History.{clock, moment_of}
@@ -20,7 +19,7 @@ use Rattle.dispatcher.specs.declared.tables.Routing.{Routing}
 use Rattle.dispatcher.specs.declared.tables.Tables.{Tables}
 use Rattle.dispatcher.specs.Access.{gone}
 use Rattle.dispatcher.specs.Answered.{Answers, StepsOn}
-use Rattle.dispatcher.specs.Dispatching.{Dispatching, IsAfter, IsOfHistory, StandsFor}
+use Rattle.dispatcher.specs.Dispatching.{Dispatching, IsAfter, IsOfHistory}
 use Rattle.dispatcher.specs.Memory.{MayCount}
 use Rattle.dispatcher.specs.Queue.{Queue}
 use Rattle.dispatcher.specs.Queueing.{args_in, stepped, with_pumps}

@@ -1,5 +1,5 @@
 -- What contracts see of the tables.
-use Rattle.std.proofs.Common.{◌≡◌, ◌+◌, ◌≤◌, ℕ, List, Result, Ok, Err, OnOk, OnErr, sym, ap, subst}
+use Rattle.std.proofs.Common.{◌≡◌, ◌≤◌, ℕ, List, Result, Ok, Err, OnOk, OnErr, sym, ap, subst}
 use Rattle.dispatch_calls.specs.declared.call.Call.{Call}
 use Rattle.dispatch_calls.specs.declared.call.Call.TheVariants.{Open, Windows, FocusOn, Notify, Pump, Tick, Receive, Finish, Pilfer, Remove}
 use Rattle.dispatch_channels.specs.Table.{but_for_room}
@@ -24,6 +24,7 @@ seen t =
       queue = t.queueing;
       shown = t.routing.shown;
       touches = t.routing.touches;
+      covers = t.routing.covers;
       channels = but_for_room t.routing.channels;
       focus = t.routing.focus;
       repeat = t.routing.repeat;
@@ -31,11 +32,11 @@ seen t =
 
 pub raw : (es : List Effect) (t : Tables) → IsAfter es (seen t) → TablesStandFor es t
 raw es t s =
-    stands_raw t.routing.displays es t.queueing t.routing.shown t.routing.touches t.routing.channels t.routing.focus t.routing.repeat s
+    stands_raw t.routing.displays es t.queueing t.routing.shown t.routing.touches t.routing.covers t.routing.channels t.routing.focus t.routing.repeat s
 
 pub bare : (es : List Effect) (t : Tables) → TablesStandFor es t → IsAfter es (seen t)
 bare es t s =
-    stands_bare t.routing.displays es t.queueing t.routing.shown t.routing.touches t.routing.channels t.routing.focus t.routing.repeat s
+    stands_bare t.routing.displays es t.queueing t.routing.shown t.routing.touches t.routing.covers t.routing.channels t.routing.focus t.routing.repeat s
 
 -- without memory nothing changed but the room
 pub seen_same : (old new : Tables) → SameAll old new → seen new ≡ seen old
@@ -46,6 +47,7 @@ seen_same old new h =
       queue = h.queueing_is i;
       shown = (h.routing_is.0 i).shown;
       touches = (h.routing_is.0 i).touches;
+      covers = (h.routing_is.0 i).covers;
       channels = (h.routing_is.0 i).channels;
       focus = (h.routing_is.0 i).focus;
       repeat = (h.routing_is.0 i).repeat;
@@ -78,6 +80,7 @@ roomier es d n s =
             queue = record { clock_is = q.clock_is; place_is = q.place_is; waiting_is = q.waiting_is; down_is = q.down_is };
             shown = s.knows.shown;
             touches = s.knows.touches;
+            covers = s.knows.covers;
             delivery = s.knows.delivery;
             inputs = s.knows.inputs;
             keying = s.knows.keying;
@@ -101,6 +104,7 @@ reserved_stands (Ok a) old new n ok err same es s =
       queue = ok i;
       shown = (same.0 i).shown;
       touches = (same.0 i).touches;
+      covers = (same.0 i).covers;
       channels = (same.0 i).channels;
       focus = (same.0 i).focus;
       repeat = (same.0 i).repeat;
@@ -120,6 +124,7 @@ args_roomier es d n s =
             queue = record { clock_is = q.clock_is; place_is = q.place_is; waiting_is = q.waiting_is; down_is = q.down_is };
             shown = s.knows.shown;
             touches = s.knows.touches;
+            covers = s.knows.covers;
             delivery = s.knows.delivery;
             inputs = s.knows.inputs;
             keying = s.knows.keying;

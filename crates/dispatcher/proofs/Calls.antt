@@ -14,7 +14,7 @@ use Rattle.key_tables.specs.Held.{target_sent}
 use Rattle.routing_rules.specs.Scene.{Scene, Moves}
 use Rattle.routing_rules.specs.Given.{changed, mark as rule_mark}
 use Rattle.route_split.specs.declared.mark.Mark.{Mark}
-use Rattle.route_split.specs.Marking.{IsMark}
+use Rattle.route_split.specs.Marking.{IsMark, IsWhole}
 use Rattle.route_split.specs.Seen.{Sees}
 use Rattle.route_split.specs.Tables.{Stands}
 use Rattle.routing_rules.specs.Watching.{is_watching}
@@ -29,11 +29,14 @@ use Rattle.dispatch_history.specs.Step.{scene}
 use Rattle.dispatch_channels.specs.Table.{Table, but_for_room, input_of}
 use Rattle.dispatch_round.specs.declared.round.Round.{Round}
 use Rattle.dispatch_round.specs.Rounds.{IsStepIn}
+use Rattle.window_covers.specs.Covers.{IsGiftOf}
+use Rattle.dispatcher.specs.Covering.{IsGiftAt}
 use Rattle.dispatcher.specs.Pointing.{step_at}
 use Rattle.dispatcher.specs.Queue.{Queue, QueueGoes}
 use Rattle.dispatcher.specs.Shown.{ShownGoes}
 use Rattle.dispatcher.specs.Knows.{Kept, KeptStandsFor}
 use Rattle.dispatcher.specs.Sending.{parted_in, FocusGoes, SendsFocus, sent_target, GoesRound}
+use Rattle.dispatcher.proofs.Gifts.{motion_gift}
 use Rattle.dispatcher.proofs.Inputs.{target_live}
 use Rattle.dispatcher.proofs.KeysSent.{target_is}
 use Rattle.dispatcher.proofs.Replies.{reply_law}
@@ -74,8 +77,9 @@ pub sent_same : (ds : List ℕ) (call : Call) (answer : Reply) (es : List Effect
     → FocusGoes call old.shown.windows mid.live old.focus old.focus
     → Keyed (target_of old.focus) mid.live (sent_target call answer (kept queue old) old.focus) keys
     → IsStepIn (scene ds es) old.touches mark motion r.watchers (step_at call answer es)
+    → IsGiftAt ds call answer es r.gift
     → KeptStandsFor ds (step ds call answer es) (kept later new)
-sent_same ds call answer es queue later place clock old new r mark motion keys mid t same part carries is shown focus keyed st =
+sent_same ds call answer es queue later place clock old new r mark motion keys mid t same part carries is shown focus keyed st gift =
     let alive = mid.live in
     let from : mid.live ≡ old.channels.live = ap (λ x. x.live) same in
     let lives : IsLive (target_of old.focus) alive =
@@ -88,6 +92,7 @@ sent_same ds call answer es queue later place clock old new r mark motion keys m
       clock_is = t.goes.clock_is ∙ t.clock_is;
       shown = subst (λ x. ShownGoes call old.shown x) (sym carries.shown_is) shown;
       touches = carries.touches;
+      covers = carries.covers;
       focus =
           subst (λ x. FocusGoes call x alive old.focus new.focus) (ap (λ x. x.windows) (sym carries.shown_is))
           (subst (λ f. FocusGoes call old.shown.windows alive old.focus f) (sym carries.focus_is) focus);
@@ -99,7 +104,8 @@ sent_same ds call answer es queue later place clock old new r mark motion keys m
     round_sent ds call answer es queue later place clock old new r mid t same
     (subst (λ p. GoesRound call answer r p.live (kept queue old) (kept later new)) (sym part) (still_round call answer queue later place clock old new r mark motion keys 0 0 alive goes))
     (still_step ds call answer es old r mark motion (target_number old.focus) keys 0 0 is st)
-    (subst (λ p. SendsRound r old.touches old.shown.origins clock p new.channels) (sym part) carries.channels)
+    gift
+    (subst (λ p. SendsRound r old.touches new.covers old.shown.origins clock p new.channels) (sym part) carries.channels)
 
 -- what waits is dispatched
 dispatches : (ws : List Args) (a : Args) (due : Option ℕ) (at : ℕ) → slice_get ws 0 ≡ Some a → Dispatched ≡ pump_reply ws due at
@@ -129,10 +135,13 @@ pub motion_pumps : (old new : Routing) (place clock : ℕ) (m : Motion) (r : Rou
     → ((c : ℕ) → mask_has reach c ≡ (mask_has old.channels.live c && is_shown_on old.shown.windows (device_display old.displays m.device) c))
     → ((s : Scene) → Stands s old.touches → Sees s old.shown.windows reach old.channels.able m.device → IsMark old.touches by (rule_mark s (Moves m)))
     → ((s : Scene) → Sees s old.shown.windows reach old.channels.able m.device → (w : ℕ) → mask_has r.watchers w ≡ is_watching s m (changed m) w)
+    → IsWhole by
+    → ((s : Scene) → s.windows ≡ old.shown.windows → s.reach m.device ≡ mask_has reach → IsGiftOf s by m r.gift)
     → Pumps (Some (MotionArgs m)) Dispatched place clock old new
-motion_pumps old new place clock m r by reach is from reaches marks watches =
+motion_pumps old new place clock m r by reach is from reaches marks watches whole found =
     record {
       after = λ es now queue later first at clk stands goes.
+          let st = motion_step old.displays now es (kept queue old) m by r.watchers reach stands first reaches marks watches in
           sent_same old.displays (Pump now) Dispatched es queue later place clock old new r by (Some m) [] from.mid
           (pumped es now (MotionArgs m) queue later place clock old first at clk stands goes)
           from.same
@@ -144,7 +153,8 @@ motion_pumps old new place clock m r by reach is from reaches marks watches =
           (keyed_none (target_of old.focus) from.mid.live (sent_target (Pump now) Dispatched (kept queue old) old.focus)
           (λ t. ap
           (λ o. target_sent (Pump now) Dispatched o t (mask_has old.channels.able t) (is_at (target_of old.focus) t) (input_of old.channels t).keys old.repeat) first))
-          (motion_step old.displays now es (kept queue old) m by r.watchers reach stands first reaches marks watches);
+          st
+          (motion_gift old.displays now es (kept queue old) m by r.watchers reach r.gift stands reaches st whole found);
       displays_are = from.carries.displays_are;
       gone_are = both_gone old.channels from.mid new.channels (room_gone old.channels from.mid from.same) from.carries.gone_are;
     }

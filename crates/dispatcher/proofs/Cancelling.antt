@@ -27,6 +27,7 @@ carried_with : (r : Round) (place clock a b : ℕ) (old new : Routing) (t : Tabl
 carried_with r place clock a b old new t h =
     record {
       touches = h.touches;
+      covers = h.covers;
       channels = record { changed = h.channels.changed; sends = h.channels.sends };
       gone_are = h.gone_are;
       repeat_is = h.repeat_is;

@@ -1,5 +1,6 @@
 -- Worked examples: window 1 has the focus, and volume up of device 1 went down in it at 1,000,000. Channel 2 was removed.
-use Rattle.std.specs.Prelude.{◌≡◌, ℕ, Bool, true, false, ◌==◌, List, [], ◌∷◌, replicate, Option, Some, None, if◌then◌else◌, refl}
+use Rattle.std.proofs.Common.{◌≡◌, ℕ, Bool, true, false, ◌==◌, List, [], ◌∷◌, replicate, Option, Some, None, if◌then◌else◌, refl, sym}
+use Rattle.std.proofs.lemmas.Bool.{true≢false}
 use Rattle.bits32.specs.Set.{members_below}
 use Rattle.input_types.specs.declared.key.KeyArgs.{KeyArgs}
 use Rattle.input_types.specs.declared.key.KeyMsg.{KeyMsg}
@@ -12,7 +13,9 @@ use Rattle.key_repeat.specs.Due.{Sent}
 use Rattle.route_split.specs.Tables.{no_table}
 use Rattle.dispatch_calls.specs.declared.call.Call.TheVariants.{Open, Notify, Pump, Tick, Receive, Finish, Pilfer, Remove}
 use Rattle.dispatch_calls.specs.declared.reply.Reply.TheVariants.{Opened, Full, Taken, Inconsistent, Dispatched, Repeated, Idle, Named, Empty, Gone, UnknownSeq, NotSpy}
+use Rattle.dispatch_history.specs.Effects.{step}
 use Rattle.dispatch_channels.specs.Table.{unsent}
+use Rattle.dispatcher.specs.Answered.{NeedNotWait}
 use Rattle.dispatcher.specs.Queue.{waiting_after}
 use Rattle.dispatcher.specs.Knows.{Kept}
 use Rattle.dispatcher.specs.Replying.{reply_by}
@@ -43,6 +46,7 @@ kept count waiting =
       queue = record { clock = 1000000; place = 5; waiting = waiting; spare = 0; pumps = 0; down = down };
       shown = record { windows = []; origins = [] };
       touches = replicate 8 no_table;
+      covers = record { obscured = replicate 8 0; partly = replicate 8 0 };
       delivery = record { count = count; channel = λ c. opened_with 5000000; live = 1; able = 1; noted = none_noted };
       inputs = outgoing;
       focus = record { requested = Some 1 ∷ None ∷ None ∷ None ∷ []; last = 0; focusable = 1 ∷ 0 ∷ 0 ∷ 0 ∷ [] };
@@ -113,3 +117,16 @@ and_is_kept = refl
 
 a_removed_target_leaves_no_repeat : repeat_then (Some 1) 0 1500000 [] (sent 0 1000000) ≡ None
 a_removed_target_leaves_no_repeat = refl
+
+-- ---- which args need not wait
+
+a_first_key_need_not_wait : NeedNotWait [] 1000000 (Key (volume_up true))
+unfolding members_below
+a_first_key_need_not_wait = (refl, refl)
+
+an_up_of_a_key_that_is_not_down_may_not_come : NeedNotWait [] 1000000 (Key (volume_up false)) → ⊥
+unfolding members_below
+an_up_of_a_key_that_is_not_down_may_not_come need = absurd (cc need.1)
+
+nor_may_args_come_before_those_that_wait : NeedNotWait (step (replicate 8 0) (Notify 1000000 (Reset 1)) Taken []) 1000000 (Reset 2) → ⊥
+nor_may_args_come_before_those_that_wait need = absurd (true≢false need.0)

@@ -1,5 +1,5 @@
 -- The tables of routing go one step on by a round that is carried out.
-use Rattle.std.proofs.Common.{◌≡◌, ℕ, max, true, List, [], unwrap_or, Option, Some, None, option_copied, refl, sym, ap, ◌∙◌, subst}
+use Rattle.std.proofs.Common.{◌≡◌, ℕ, max, true, false, List, [], unwrap_or, Option, Some, None, option_copied, refl, sym, ap, ◌∙◌, subst}
 use Rattle.input_types.specs.declared.key.KeyMsg.{KeyMsg}
 use Rattle.input_types.specs.declared.motion.Motion.{Motion}
 use Rattle.window_snapshot.specs.Mask.{mask_has}
@@ -8,7 +8,12 @@ use Rattle.key_repeat.specs.Due.{Sent}
 use Rattle.key_tables.specs.Repeats.{repeat_after, repeat_next}
 use Rattle.dispatch_calls.specs.declared.call.Call.{Call}
 use Rattle.dispatch_calls.specs.declared.reply.Reply.{Reply}
+use Rattle.routing_rules.specs.Given.{mark as rule_mark}
+use Rattle.routing_rules.specs.Pairs.{has_any}
+use Rattle.routing_rules.specs.Scene.{Scene, Step, Resets, Pilfers, Shows, Mutes, Removes, NoOp as NoOps}
+use Rattle.route_split.specs.Marking.{IsStepOf}
 use Rattle.route_split.specs.declared.mark.Mark.{Mark}
+use Rattle.route_split.specs.declared.mark.Mark.TheVariants.{NoOp, Empty, Pilfer, Unnamed, Mute, Forget}
 use Rattle.dispatch_history.specs.History.{moment_of}
 use Rattle.dispatch_history.specs.Effect.{Effect}
 use Rattle.dispatch_history.specs.Effects.{step}
@@ -19,6 +24,7 @@ use Rattle.dispatch_channels.specs.Table.{Table, but_for_room}
 use Rattle.dispatch_round.specs.declared.round.Round.{Round}
 use Rattle.dispatch_round.specs.Rounds.{IsStepIn, sent_in}
 use Rattle.dispatch_round.specs.Outgoing.{SendsAll}
+use Rattle.dispatcher.specs.Covering.{CoversGo, IsGiftAt}
 use Rattle.dispatcher.specs.Pointing.{step_at}
 use Rattle.dispatcher.specs.Queue.{Queue, QueueGoes}
 use Rattle.dispatcher.specs.Shown.{ShownGoes}
@@ -47,13 +53,14 @@ pub round_sent : (ds : List ℕ) (call : Call) (answer : Reply) (es : List Effec
     → but_for_room mid ≡ but_for_room old.channels
     → GoesRound call answer r (parted_in call answer later.clock mid).live (kept queue old) (kept later new)
     → IsStepIn (scene ds es) old.touches r.mark (option_copied r.motion) r.watchers (step_at call answer es)
-    → SendsRound r old.touches old.shown.origins clock (parted_in call answer later.clock mid) new.channels
+    → IsGiftAt ds call answer es r.gift
+    → SendsRound r old.touches new.covers old.shown.origins clock (parted_in call answer later.clock mid) new.channels
     → KeptStandsFor ds (step ds call answer es) (kept later new)
-round_sent ds call answer es queue later place clock old new r mid t same goes is sends =
+round_sent ds call answer es queue later place clock old new r mid t same goes is gift sends =
     let at : later.clock ≡ clock = t.goes.clock_is ∙ t.clock_is in
     let p = parted_in call answer later.clock mid in
-    round_law ds call answer es (kept queue old) (kept later new) r old.channels mid new.channels sends.changed t.stands refl refl same t.reply_is t.rises t.sending goes is
-    (λ s e this holds. subst (λ x. SendsAll sends.changed (sent_in r s e) old.shown.origins x p new.channels) (sym at) (sends.sends s e this holds))
+    round_law ds call answer es (kept queue old) (kept later new) r old.channels mid new.channels sends.changed t.stands refl refl same t.reply_is t.rises t.sending goes is gift
+    (λ s e this holds. subst (λ x. SendsAll sends.changed (sent_in new.covers r s e) old.shown.origins x p new.channels) (sym at) (sends.sends s e this holds))
     refl
     refl
 
@@ -91,6 +98,7 @@ pub record StillGoes
   pub clock_is : later.clock ≡ clock
   pub shown : ShownGoes call old.shown new.shown
   pub touches : TakesMark r.mark place old.touches new.touches
+  pub covers : CoversGo r.gift old.touches old.covers new.covers
   pub focus : FocusGoes call new.shown.windows alive old.focus new.focus
   pub changes : SendsFocus lost gained alive old.focus new.focus
   pub lives : IsLive (target_of old.focus) alive
@@ -107,6 +115,7 @@ still_round call answer queue later place clock old new r mark motion keys lost 
       queue = g.queue_goes;
       shown = g.shown;
       touches = subst (λ n. TakesMark r.mark n old.touches new.touches) (sym g.place_is) g.touches;
+      covers = g.covers;
       focus = g.focus;
       changes = subst (λ n. SendsFocus n r.gained alive old.focus new.focus) (sym g.is.lost_is)
           (subst (λ n. SendsFocus lost n alive old.focus new.focus) (sym g.is.gained_is) g.changes);
@@ -131,3 +140,21 @@ still_step ds call answer es old r mark motion target keys lost gained is st =
     let S = scene ds es in
     subst (λ m. IsStepIn S old.touches m (option_copied r.motion) r.watchers (step_at call answer es)) (sym is.mark_is)
     (subst (λ o. IsStepIn S old.touches mark o r.watchers (step_at call answer es)) (sym is.motion_is) st)
+
+-- a step that is no motion gives nothing
+gives_none : (s : Scene) (k : Mark) (e : Step) → IsStepOf k e → (w d : ℕ) → has_any (rule_mark s e).given w d ≡ false
+gives_none s (Empty device) (Resets y) h w d = refl
+gives_none s (Pilfer device window) (Pilfers v y) h w d = refl
+gives_none s (Unnamed stays) (Shows names) h w d = refl
+gives_none s (Mute channels) (Mutes muted) h w d = refl
+gives_none s (Forget window) (Removes v) h w d = refl
+gives_none s NoOp NoOps h w d = refl
+gives_none s _ _ h w d = absurd h
+
+-- so the gift of such a round is that of the step
+pub still_gift : (ds : List ℕ) (call : Call) (answer : Reply) (es : List Effect) (old : Routing) (r : Round) (mark : Mark) (target : ℕ) (keys : List KeyMsg) (lost gained : ℕ)
+    → IsOf mark None target keys lost gained r
+    → IsStepIn (scene ds es) old.touches mark None r.watchers (step_at call answer es)
+    → IsGiftAt ds call answer es r.gift
+still_gift ds call answer es old r mark target keys lost gained is st =
+    subst (IsGiftAt ds call answer es) (sym is.gift_is) (gives_none (scene ds es) mark (step_at call answer es) st)

@@ -1,10 +1,8 @@
 -- No message is let go, and no naming.
-use Rattle.std.proofs.Common.{◌≡◌, ◌-◌, ℕ, zero, suc, nat_lt, Bool, true, false, cond, List, [], ◌∷◌, ◌++◌, get_or, set, Result, Ok, Err, OnOk, OnErr, refl, sym, ap, ◌∙◌}
+use Rattle.std.proofs.Common.{◌≡◌, ◌-◌, ℕ, zero, suc, nat_lt, Bool, true, false, cond, List, [], ◌∷◌, ◌++◌, get_or, set, refl, sym, ap, ◌∙◌}
 use Rattle.input_channel.specs.State.{ChannelState, opened_with, received_one, passed}
-use Rattle.dispatch_calls.specs.declared.call.Call.{Call}
 use Rattle.dispatch_channels.specs.Table.{Table, channel_of, with_channel, but_for_room}
 use Rattle.dispatch_channels.specs.Changes.{Opens, new_channel, finished_at, finished_in, named_in}
-use Rattle.dispatcher.specs.declared.tables.Tables.{Tables}
 use Rattle.dispatcher.specs.Tables.{LetsNoneGo}
 use Rattle.dispatcher.proofs.Rooms.{channel_bare}
 

@@ -9,6 +9,8 @@ use Rattle.focus_resolver.specs.Resolver.{focus_if, is_at}
 use Rattle.key_repeat.specs.Due.{Sent}
 use Rattle.cancel_synthesis.specs.Tracked.{pointers_of}
 use Rattle.cancel_synthesis.specs.Laws.{pointers_sent, keys_sent}
+use Rattle.routing_rules.specs.Cover.{under, under_all}
+use Rattle.routing_rules.specs.Marks.{covered}
 use Rattle.routing_rules.specs.Outgoing.{sent_with, devices}
 use Rattle.dispatch_calls.specs.declared.call.Call.{Call}
 use Rattle.dispatch_calls.specs.declared.reply.Reply.{Reply}
@@ -17,7 +19,7 @@ use Rattle.dispatch_history.specs.Focus.{key_target, may_focus, requested, asked
 use Rattle.dispatch_history.specs.Effect.{Effect, past_of}
 use Rattle.dispatch_history.specs.Effects.{step, said_at}
 use Rattle.dispatch_history.specs.Said.{motion_from}
-use Rattle.dispatch_history.specs.Step.{scene}
+use Rattle.dispatch_history.specs.Step.{marks, scene}
 use Rattle.dispatch_tables.specs.Lawful.{Lawful}
 use Rattle.key_tables.specs.Held.{KeysAre, key_messages}
 use Rattle.key_tables.specs.Repeats.{RepeatIs, repeat_next}
@@ -87,14 +89,16 @@ pub record Unsaid (ds : List ℕ) (call : Call) (answer : Reply) (es : List Effe
 pub unsaid : (ds : List ℕ) (call : Call) (answer : Reply) (es : List Effect) (w : ℕ) → live (past_of (step ds call answer es)) w ≡ true
     → said_at ds call answer es w ≡ [] → Unsaid ds call answer es w
 unsaid ds call answer es w lives e =
-    let ms = flat_map (sent_with (scene ds es) (step_at call answer es) (mark_at ds call answer es) w) devices in
+    let raw = flat_map (sent_with (scene ds es) (step_at call answer es) (mark_at ds call answer es) w) devices in
+    let cover = covered (mark_at ds call answer es ∷ marks es) w in
+    let ms = under_all cover raw in
     let Shift : Motion → Body = λ m. MotionBody (motion_from (origin (past_of es) w) m) in
     let ks = key_messages call answer es w in
     let a =
     none_of (map Shift ms ++ map Key ks) (focus_sent (has_focus (past_of es) w) (has_focus (past_of (step ds call answer es)) w))
     (sym (said_parts ds call answer es w lives) ∙ e) in
     let b = none_of (map Shift ms) (map Key ks) a.0 in
-    record { motions = none_mapped Shift ms b.0; keys = none_mapped Key ks b.1 }
+    record { motions = none_mapped (λ m. under (cover m.device) m) raw (none_mapped Shift ms b.0); keys = none_mapped Key ks b.1 }
 
 pub input_quiet : InputQuiet
 input_quiet ds call answer es w input lives e =

@@ -26,6 +26,7 @@ use Rattle.dispatch_channels.specs.Table.{Table, input_of}
 use Rattle.dispatch_round.specs.declared.round.Round.{Round}
 use Rattle.dispatch_round.specs.Rounds.{IsStepIn}
 use Rattle.dispatch_round.proofs.Ruling.{quiet_sent}
+use Rattle.window_covers.specs.Covers.{CoverTable}
 use Rattle.dispatcher.specs.Pointing.{step_at}
 use Rattle.dispatcher.specs.Queue.{Queue, QueueGoes}
 use Rattle.dispatcher.specs.Knows.{Kept, KeptStandsFor}
@@ -38,7 +39,7 @@ use Rattle.dispatcher.specs.Carrying.{SendsRound, CarriesSome, IsOf}
 use Rattle.dispatcher.specs.Keying.{target_number, only_live}
 use Rattle.dispatcher.specs.Tables.{kept, Pumps}
 use Rattle.dispatcher.proofs.Gone.{room_gone, both_gone, none_gone}
-use Rattle.dispatcher.proofs.Going.{Keyed}
+use Rattle.dispatcher.proofs.Going.{Keyed, still_gift}
 use Rattle.dispatcher.proofs.Calls.{sent_same, pumped}
 use Rattle.dispatcher.proofs.NoOpLaws.{no_op_as_is}
 use Rattle.dispatcher.proofs.NoOps.{rested}
@@ -83,13 +84,15 @@ args_sent old new place clock a mark keys es now queue later some first at clk s
     (subst (λ n. Keyed (target_of old.focus) n (sent_target (Pump now) Dispatched (kept queue old) old.focus) keys) (sym (ap (λ x. x.live) some.carries.same))
     (subst (λ o. Keyed (target_of old.focus) old.channels.live (sent_by old o now) keys) (sym first) keyed))
     (st some.round.watchers)
+    (still_gift old.displays (Pump now) Dispatched es old some.round mark (target_number old.focus) keys 0 0 some.is (st some.round.watchers))
 
 -- a round that tells nobody anything, and with which no pointer changes hands
 abbrev silent_round : (target : ℕ) → Round
-silent_round target = record { mark = NoOp; motion = None; watchers = 0; target = target; keys = record { ref_ptr = (0, 0); now = [] }; lost = 0; gained = 0 }
+silent_round target = record { mark = NoOp; motion = None; gift = None; watchers = 0; target = target; keys = record { ref_ptr = (0, 0); now = [] }; lost = 0; gained = 0 }
 
-sends_none : (target clock : ℕ) (ts : List Touches) (origins : List Pixel) (t : Table) → SendsRound (silent_round target) ts origins clock t t
-sends_none target clock ts origins t =
+sends_none : (target clock : ℕ) (ts : List Touches) (covers : CoverTable) (origins : List Pixel) (t : Table)
+    → SendsRound (silent_round target) ts covers origins clock t t
+sends_none target clock ts covers origins t =
     record {
       changed = 0;
       sends = λ s e is holds.
@@ -99,7 +102,7 @@ sends_none target clock ts origins t =
             tracks = λ c has. absurd (true≢false (sym has ∙ mask_has-zero c));
             stays = λ c from none. (refl, refl);
             quiet = λ c none lives.
-                quiet_sent s e ts (silent_round target) c is tt (mask_has_channel t.live c lives) (ap (λ b. b || b || b) (mask_has-zero c));
+                quiet_sent covers s e ts (silent_round target) c is tt (mask_has_channel t.live c lives) (ap (λ b. b || b || b) (mask_has-zero c));
             as_many = refl;
             live_is = refl;
             able_is = refl;
@@ -114,7 +117,7 @@ carries_none place clock es queue old stands =
     let target = target_number old.focus in
     record {
       round = silent_round target;
-      is = record { mark_is = refl; motion_is = refl; target_is = refl; keys_are = refl; lost_is = refl; gained_is = refl };
+      is = record { mark_is = refl; motion_is = refl; gift_is = refl; target_is = refl; keys_are = refl; lost_is = refl; gained_is = refl };
       carries =
           record {
             mid = old.channels;
@@ -122,7 +125,8 @@ carries_none place clock es queue old stands =
             carries =
                 record {
                   touches = no_op_as_is (marks es) old.touches place stands.knows.touches;
-                  channels = sends_none target clock old.touches old.shown.origins old.channels;
+                  covers = refl;
+                  channels = sends_none target clock old.touches old.covers old.shown.origins old.channels;
                   gone_are = none_gone old.channels;
                   repeat_is = refl;
                   displays_are = refl;
@@ -214,6 +218,7 @@ repeat_pump old new place clock n lost gained l g due e some =
           let r = some.round in
           let from = some.carries in
           let keys = n.1 ∷ [] in
+          let st = (other_steps old.displays es (kept queue old) stands).repeats now r.watchers in
           let is : IsOf NoOp None (target_number old.focus) keys 0 0 r =
           subst (λ n. IsOf NoOp None (target_number old.focus) keys n 0 r) l
           (subst (λ n. IsOf NoOp None (target_number old.focus) keys lost n r) g some.is) in
@@ -235,7 +240,8 @@ repeat_pump old new place clock n lost gained l g due e some =
           refl
           (keyed_repeat old.displays es (kept queue old) from.mid.live n (target_of old.focus) (sent_target (Pump now) Repeated (kept queue old) old.focus) stands e refl
           (λ t. refl))
-          ((other_steps old.displays es (kept queue old) stands).repeats now r.watchers);
+          st
+          (still_gift old.displays (Pump now) Repeated es old r NoOp (target_number old.focus) keys 0 0 is st);
       displays_are = some.carries.carries.displays_are;
       gone_are =
           both_gone old.channels some.carries.mid new.channels (room_gone old.channels some.carries.mid some.carries.same) some.carries.carries.gone_are;

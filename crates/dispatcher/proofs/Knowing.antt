@@ -14,11 +14,12 @@ use Rattle.dispatch_tables.proofs.Going.{delivery_law}
 use Rattle.dispatcher.specs.Queue.{QueueGoes}
 use Rattle.dispatcher.specs.Shown.{ShownGoes}
 use Rattle.dispatcher.specs.Pointing.{TouchesGo}
+use Rattle.dispatcher.specs.Covering.{CoversStep}
 use Rattle.dispatcher.specs.Input.{InputIs, InputGoes}
 use Rattle.dispatcher.specs.Knows.{Kept, KeyingIs, KeptStandsFor}
 use Rattle.dispatcher.specs.Laws.{GoesLaw}
 use Rattle.dispatcher.proofs.QueueLaws.{queue_law}
-use Rattle.dispatcher.proofs.ShownLaws.{shown_law, touches_law}
+use Rattle.dispatcher.proofs.ShownLaws.{shown_law, touches_law, covers_law}
 use Rattle.dispatcher.proofs.Inputs.{input_law}
 
 -- what goes one step on in all other tables, where the channels and what is kept of keys stand for the history with it
@@ -26,6 +27,7 @@ pub record GoesWith (ds : List ℕ) (call : Call) (answer : Reply) (es : List Ef
   pub queue : QueueGoes call answer k.queue later.queue
   pub shown : ShownGoes call k.shown later.shown
   pub touches : TouchesGo ds call answer es k.queue.place k.touches later.touches
+  pub covers : CoversStep ds call answer es k.touches k.covers later.covers
   pub delivery : DeliveryIs (step ds call answer es) later.delivery
   pub inputs :
       (w : ℕ) → live (past_of (step ds call answer es)) w ≡ true
@@ -46,6 +48,7 @@ stands_next ds call answer es k later stands r rises goes =
             touches =
                 touches_law ds call answer es k.touches later.touches stands.knows.touches
                 (subst (λ place. TouchesGo ds call answer es place k.touches later.touches) stands.knows.queue.place_is goes.touches);
+            covers = covers_law ds call answer es k.touches k.covers later.covers stands.knows.touches stands.knows.covers goes.covers;
             delivery = goes.delivery;
             inputs = λ w lives.
                 let from = goes.inputs w lives in
@@ -61,6 +64,7 @@ goes_law ds call answer es k later stands r rises goes =
       queue = goes.queue;
       shown = goes.shown;
       touches = goes.touches;
+      covers = goes.covers;
       delivery =
           delivery_law ds call answer es goes.changed k.delivery later.delivery (lawful_step ds call answer es stands.lawful r) stands.knows.delivery goes.delivery;
       inputs = goes.inputs;

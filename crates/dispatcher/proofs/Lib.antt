@@ -40,11 +40,13 @@ pub mod KeySteps
 pub mod Refocused
 pub mod Opening
 pub mod Notifying
+pub mod Through
 pub mod Releasing
 pub mod Oks
 pub mod Stepped
 pub mod Pilfering
 pub mod Motioning
+pub mod Gifts
 pub mod Gone
 pub mod Missing
 pub mod Cancelling

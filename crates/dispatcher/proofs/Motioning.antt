@@ -9,13 +9,14 @@ use Rattle.window_snapshot.specs.Named.{is_shown_on}
 use Rattle.routing_rules.specs.Scene.{Scene, Moves}
 use Rattle.routing_rules.specs.Given.{changed, mark as rule_mark}
 use Rattle.route_split.specs.declared.mark.Mark.{Mark}
-use Rattle.route_split.specs.Marking.{IsMark}
+use Rattle.route_split.specs.Marking.{IsMark, IsWhole}
 use Rattle.route_split.specs.Seen.{Sees}
 use Rattle.route_split.specs.Tables.{Stands}
 use Rattle.routing_rules.specs.Watching.{is_watching}
 use Rattle.dispatch_calls.specs.declared.reply.Reply.TheVariants.{Dispatched}
 use Rattle.dispatch_channels.proofs.Picking.{mask_has-and}
 use Rattle.dispatch_round.specs.declared.round.Round.{Round}
+use Rattle.window_covers.specs.Covers.{IsGiftOf}
 use Rattle.dispatcher.specs.declared.tables.Routing.{Routing}
 use Rattle.dispatcher.specs.Carrying.{CarriesFrom, IsOf}
 use Rattle.dispatcher.specs.Keying.{target_number}
@@ -41,8 +42,10 @@ pub motion_sent : (old new : Routing) (place clk : ℕ) (m : Motion) (r : Round)
     → ((c : ℕ) → mask_has shown c ≡ (is_channel c && is_shown_on windows display c))
     → ((s : Scene) → Stands s old.touches → Sees s windows (bit_and live shown) able m.device → IsMark old.touches by (rule_mark s (Moves m)))
     → ((s : Scene) → Sees s windows (bit_and live shown) able m.device → (w : ℕ) → mask_has r.watchers w ≡ is_watching s m (changed m) w)
+    → IsWhole by
+    → ((s : Scene) → s.windows ≡ windows → s.reach m.device ≡ mask_has (bit_and live shown) → IsGiftOf s by m r.gift)
     → Pumps (Some (MotionArgs m)) Dispatched place clk old new
-motion_sent old new place clk m r by live shown able windows display is from ws l a d shows marks watches =
+motion_sent old new place clk m r by live shown able windows display is from ws l a d shows marks watches whole found =
     let reach = bit_and live shown in
     let sees : (s : Scene) → Sees s old.shown.windows reach old.channels.able m.device → Sees s windows reach able m.device =
     λ s h. subst (λ v. Sees s v reach able m.device) (sym ws) (subst (λ n. Sees s old.shown.windows reach n m.device) (sym a) h) in
@@ -54,3 +57,5 @@ motion_sent old new place clk m r by live shown able windows display is from ws 
     ∙ ap (λ y. mask_has old.channels.live c && is_shown_on old.shown.windows y c) d)
     (λ s st h. marks s st (sees s h))
     (λ s h. watches s (sees s h))
+    whole
+    (λ s at in_reach. found s (at ∙ sym ws) in_reach)

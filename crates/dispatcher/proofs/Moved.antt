@@ -1,5 +1,5 @@
 -- A Move, while no window is slippery.
-use Rattle.std.proofs.Common.{◌≡◌, ◌≤◌, ◌==◌, ℕ, suc, Bool, true, false, not, ◌&&◌, ◌||◌, cond, List, [], ◌∷◌, length, map, filter, Option, Some, None, refl, sym, ap, ap₂, ◌∙◌, inl, inr, arith}
+use Rattle.std.proofs.Common.{◌≡◌, ◌≤◌, ◌==◌, ℕ, suc, Bool, true, false, not, ◌&&◌, ◌||◌, cond, List, [], ◌∷◌, length, map, filter, Option, Some, None, refl, sym, ap, ap₂, ◌∙◌, subst, inl, inr, arith}
 use Rattle.std.specs.List.{list_any}
 use Rattle.std.specs.Option.{option_copied}
 use Rattle.std.proofs.lemmas.Bool.{cases_Bool, both_ways}
@@ -38,6 +38,7 @@ use Rattle.dispatch_round.specs.declared.round.Round.{Round}
 use Rattle.dispatch_round.specs.Bodies.{keys_to}
 use Rattle.dispatch_round.specs.Light.{most_moves, HasLight, SpendsLight}
 use Rattle.dispatch_round.specs.Rounds.{IsLeft}
+use Rattle.window_covers.specs.Covers.{IsGiftOf}
 use Rattle.dispatcher.specs.declared.tables.Routing.{Routing}
 use Rattle.dispatcher.specs.Carrying.{CarriesFrom, IsOf}
 use Rattle.dispatcher.specs.Keying.{target_number}
@@ -106,11 +107,11 @@ none_watching s m w is = at (changed m)
 
 -- it is dispatched
 pub move_sent : (old new : Routing) (place clk : ℕ) (m : Motion) (r : Round)
-    → IsOf NoOp (Some m) (target_number old.focus) [] 0 0 r → r.watchers ≡ 0
+    → IsOf NoOp (Some m) (target_number old.focus) [] 0 0 r → r.watchers ≡ 0 → r.gift ≡ None
     → CarriesFrom r place clk old new
     → m.action ≡ Move → list_any is_slippery old.shown.windows ≡ false
     → Pumps (Some (MotionArgs m)) Dispatched place clk old new
-move_sent old new place clk m r is unwatched from move none =
+move_sent old new place clk m r is unwatched ungiven from move none =
     let display = device_display old.displays m.device in
     motion_sent old new place clk m r NoOp old.channels.live (mask_of (filter (λ v. v.display == display) old.shown.windows)) old.channels.able old.shown.windows display
     is
@@ -122,6 +123,8 @@ move_sent old new place clk m r is unwatched from move none =
     (mask_has-mask_of (filter (λ v. v.display == display) old.shown.windows))
     (λ s stands sees. move_rests s old.touches m move (ap (list_any is_slippery) sees.windows_are ∙ none))
     (λ s sees w. ap (λ n. mask_has n w) unwatched ∙ mask_has-zero w ∙ sym (none_watching s m w move))
+    tt
+    (λ s at in_reach. subst (IsGiftOf s NoOp m) (sym ungiven) (λ p w e. refl))
 
 -- ---- room
 

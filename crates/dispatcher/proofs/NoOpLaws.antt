@@ -1,5 +1,5 @@
 -- Steps that tell nobody anything.
-use Rattle.std.proofs.Common.{◌≡◌, ◌≤◌, ℕ, ◌&&◌, ◌||◌, not, Bool, true, false, cond, List, [], ◌∷◌, ◌++◌, filter, filter_map, refl, sym, ap, ◌∙◌, subst}
+use Rattle.std.proofs.Common.{◌≡◌, ◌≤◌, ℕ, ◌&&◌, ◌||◌, not, Bool, true, false, cond, List, [], ◌∷◌, ◌++◌, filter, filter_map, None, refl, sym, ap, ◌∙◌, subst}
 use Rattle.std.proofs.Math.Path.{fun_ext}
 use Rattle.std.proofs.lemmas.Bool.{true≢false, and_parts}
 use Rattle.std.proofs.lemmas.List.{append-nil}
@@ -10,6 +10,7 @@ use Rattle.window_snapshot.specs.Mask.{mask_has}
 use Rattle.window_snapshot.proofs.Masks.{mask_has-zero}
 use Rattle.routing_rules.specs.Marks.{Mark as RuleMark, held, pilfering}
 use Rattle.routing_rules.specs.Pairs.{has_any}
+use Rattle.routing_rules.specs.Given.{given}
 use Rattle.routing_rules.specs.Scene.{NoOp}
 use Rattle.routing_rules.specs.Taking.{pilfers}
 use Rattle.touch_state.specs.Touches.{Touches, none}
@@ -150,12 +151,18 @@ touches_rest ds call answer es k later stands e stays =
           (no_op_as_is (marks es) k.touches k.queue.place stands.knows.touches);
     }
 
+-- a step that is none gives nothing
+none_given : (ds : List ℕ) (call : Call) (answer : Reply) (es : List Effect) → step_at call answer es ≡ NoOp
+    → (w d : ℕ) → has_any (mark_at ds call answer es).given w d ≡ false
+none_given ds call answer es e w d = ap (λ x. has_any (given (scene ds es) x) w d) e
+
 -- such a step keeps what stands, where the channels go on
 pub still_goes : (ds : List ℕ) (call : Call) (answer : Reply) (es : List Effect) (k later : Kept) → KeptStandsFor ds es k → answer ≡ reply_to es call
-    → RisesIn call → Still call answer → TouchesGo ds call answer es k.queue.place k.touches later.touches → StaysBut call answer k later
+    → RisesIn call → Still call answer → TouchesGo ds call answer es k.queue.place k.touches later.touches
+    → ((w d : ℕ) → has_any (mark_at ds call answer es).given w d ≡ false) → StaysBut call answer k later
     → DeliveryIs (step ds call answer es) later.delivery
     → KeptStandsFor ds (step ds call answer es) later
-still_goes ds call answer es k later stands r rises still touches stays delivery =
+still_goes ds call answer es k later stands r rises still touches nothing stays delivery =
     let lawful = lawful_step ds call answer es stands.lawful r in
     let quiet : (w : ℕ) → said_at ds call answer es w ≡ [] = λ w. silent_calls ds call answer es w (still.silent w) in
     let same : (w : ℕ) → live (past_of (step ds call answer es)) w ≡ live (past_of es) w = λ w. still.live w (live (past_of es) w) in
@@ -164,6 +171,7 @@ still_goes ds call answer es k later stands r rises still touches stays delivery
       queue = stays.queue;
       shown = shown_still call k.shown later.shown still.windows still.origins stays.shown_is;
       touches = touches;
+      covers = record { gift = None; is_gift = nothing; changes = stays.covers_are };
       delivery = delivery;
       inputs = λ w lives. (
         k.inputs w,
@@ -186,6 +194,7 @@ pub no_op_law : NoOpLaw
 no_op_law ds call answer es k later stands r rises rests stays =
     still_goes ds call answer es k later stands r rises (no_op_still call answer rests)
     (touches_rest ds call answer es k later stands (no_op_step call answer (snapshot (past_of es)) (inbound (past_of es)) rests) stays.but)
+    (none_given ds call answer es (no_op_step call answer (snapshot (past_of es)) (inbound (past_of es)) rests))
     stays.but
     (subst (DeliveryIs (step ds call answer es)) (sym stays.delivery_is)
     (delivery_no_op ds call answer es k.delivery (lawful_step ds call answer es stands.lawful r) rests stands.knows.delivery))
@@ -239,5 +248,6 @@ tick_idle ds now es k later stands r stays =
           subst (TakesMark NoOpMark k.queue.place k.touches) (sym stays.but.touches_are)
           (no_op_as_is (marks es) k.touches k.queue.place stands.knows.touches);
     })
+    (λ w d. refl)
     stays.but
     (subst (DeliveryIs (step ds call (Named 0) es)) (sym stays.delivery_is) (tick_delivery ds now es k.delivery lawful stands.knows.delivery))

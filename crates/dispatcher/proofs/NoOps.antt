@@ -1,13 +1,12 @@
 -- Calls that tell nobody anything.
-use Rattle.std.proofs.Common.{◌≡◌, ◌<◌, ℕ, max, Bool, true, false, not, nat_le, nat_lt, cond, List, slice_get, ◌-◌, Some, None, refl, sym, ap, ◌∙◌, subst, lit<, if◌then◌else◌}
+use Rattle.std.proofs.Common.{◌≡◌, ℕ, max, Bool, true, false, not, nat_lt, cond, List, ◌-◌, None, refl, sym, ap, ◌∙◌, subst, lit<, if◌then◌else◌}
 use Rattle.std.proofs.lemmas.List.{set-get_or}
 use Rattle.window_snapshot.specs.Mask.{mask_has}
-use Rattle.input_types.specs.declared.message.Message.{Message}
 use Rattle.input_channel.specs.State.{ChannelState, opened_with, may_finish, received_one, passed}
 use Rattle.dispatch_calls.specs.declared.call.Call.{Call}
 use Rattle.dispatch_calls.specs.declared.call.Call.TheVariants.{Receive, Finish, Remove, Tick}
 use Rattle.dispatch_calls.specs.declared.reply.Reply.{Reply}
-use Rattle.dispatch_calls.specs.declared.reply.Reply.TheVariants.{Got, Empty, Gone, Done, UnknownSeq, Named}
+use Rattle.dispatch_calls.specs.declared.reply.Reply.TheVariants.{Got, Gone, Done, UnknownSeq, Named}
 use Rattle.dispatch_history.specs.Effect.{Effect, past_of}
 use Rattle.dispatch_history.specs.Effects.{step}
 use Rattle.dispatch_history.specs.History.{live, moment_of}
@@ -39,7 +38,7 @@ stays_but : (call : Call) (answer : Reply) (queue later : Queue) (old : Routing)
     → QueueGoes call answer queue later → input_of u ≡ input_of old.channels
     → StaysBut call answer (kept queue old) (kept later (record old { channels = u }))
 stays_but call answer queue later old u goes inputs =
-    record { queue = goes; shown_is = refl; touches_are = refl; inputs_are = inputs; focus_is = refl; repeat_is = refl }
+    record { queue = goes; shown_is = refl; touches_are = refl; covers_are = refl; inputs_are = inputs; focus_is = refl; repeat_is = refl }
 
 -- a step that rests
 pub rested : (call : Call) (answer : Reply) (es : List Effect) (queue later : Queue) (old : Routing)
@@ -169,11 +168,11 @@ remove_gone c place clock old gone =
 -- one that is live is removed
 pub removes : (c place clock : ℕ) (old new : Routing) → mask_has old.channels.live c ≡ true
     → TakesMark (Forget c) place old.touches new.touches
-    → new.displays ≡ old.displays → new.shown ≡ old.shown → new.channels ≡ removed_in c old.channels
+    → new.displays ≡ old.displays → new.shown ≡ old.shown → new.covers ≡ old.covers → new.channels ≡ removed_in c old.channels
     → Refocuses old.shown.windows (removed_in c old.channels).live old.focus new.focus
     → new.repeat ≡ (if is_at (target_of old.focus) c then None else old.repeat)
     → Goes (λ now. Remove now c) Done place clock old new
-removes c place clock old new lives touches displays shown channels focus repeat =
+removes c place clock old new lives touches displays shown covers channels focus repeat =
     record {
       after = λ es now queue later at clk stands goes.
           let k = kept queue old in
@@ -183,6 +182,7 @@ removes c place clock old new lives touches displays shown channels focus repeat
             queue = goes;
             shown_is = shown;
             touches = subst (λ n. TakesMark (Forget c) n old.touches new.touches) (sym at) touches;
+            covers_are = covers;
             delivery_is = ap delivery_of channels;
             inputs_are = ap input_of channels;
             focus = focus;

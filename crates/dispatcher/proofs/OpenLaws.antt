@@ -41,11 +41,11 @@ opened_input ds limit number es k t p w s e f o y =
     ]
 
 pub open_law : OpenLaw
-open_law ds limit number es k later r t p u changed stands e f reply o goes is sends g h =
+open_law ds limit number es k later r t p u changed stands e f reply o goes is gift sends g h =
     let call = Open limit in
     let answer = Opened number in
     round_goes ds call answer es k later r t p u changed (λ c. c == number)
-    (record { stands = stands; delivery_was = e; reply_is = reply; rises = tt; goes = goes; step_is = is; sends = sends; delivery_is = g; inputs_are = h })
+    (record { stands = stands; delivery_was = e; reply_is = reply; rises = tt; goes = goes; step_is = is; gift_is = gift; sends = sends; delivery_is = g; inputs_are = h })
     (record {
       as_many = o.as_many;
       kept = λ c y. by_number c (c == number) refl y;

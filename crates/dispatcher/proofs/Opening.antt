@@ -38,7 +38,7 @@ use Rattle.dispatcher.specs.Keying.{target_number}
 use Rattle.dispatcher.specs.Opening.{IsWelcome, Welcomes}
 use Rattle.dispatcher.specs.Tables.{kept, Goes}
 use Rattle.dispatcher.proofs.Gone.{opened_gone, both_gone}
-use Rattle.dispatcher.proofs.Going.{Keyed, IsLive, StillGoes, still_round, still_step}
+use Rattle.dispatcher.proofs.Going.{Keyed, IsLive, StillGoes, still_round, still_step, still_gift}
 use Rattle.dispatcher.proofs.Calls.{target_lives}
 use Rattle.dispatcher.proofs.NoOps.{no_op_at}
 
@@ -170,6 +170,7 @@ opens_goes limit number place clock old new p h w =
             clock_is = goes.clock_is ∙ clk;
             shown = subst (λ x. ShownGoes (Open limit) old.shown x) (sym w.carries.shown_is) (record { windows_are = refl; origins_are = λ w low high. refl });
             touches = w.carries.touches;
+            covers = w.carries.covers;
             focus =
                 subst (λ x. Refocuses x p.live old.focus new.focus) (ap (λ x. x.windows) (sym w.carries.shown_is))
                 (subst (λ f. Refocuses old.shown.windows p.live old.focus f) (sym focus) w.refocuses);
@@ -193,8 +194,10 @@ opens_goes limit number place clock old new p h w =
           (still_round (Open limit) (Opened number) queue later place clock old new r NoOp None [] 0 (bit_and w.gained (mask_with 0 number)) p.live is)
           (still_step old.displays (Open limit) (Opened number) es old r NoOp None (target_number old.focus) [] 0 (bit_and w.gained (mask_with 0 number)) w.is
           ((other_steps old.displays es k stands).opens limit number r.watchers))
+          (still_gift old.displays (Open limit) (Opened number) es old r NoOp (target_number old.focus) [] 0 (bit_and w.gained (mask_with 0 number)) w.is
+          ((other_steps old.displays es k stands).opens limit number r.watchers))
           (λ s e this holds.
-          subst (λ x. SendsAll w.carries.channels.changed (sent_in r s e) old.shown.origins x p new.channels) (sym (goes.clock_is ∙ clk))
+          subst (λ x. SendsAll w.carries.channels.changed (sent_in new.covers r s e) old.shown.origins x p new.channels) (sym (goes.clock_is ∙ clk))
           (w.carries.channels.sends s e this holds))
           refl
           refl;

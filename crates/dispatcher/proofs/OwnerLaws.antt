@@ -114,7 +114,7 @@ got_law ds k m es kept later t u stands r stays e f g =
       able_is = refl;
       noted_is = refl;
     }) in
-    still_goes ds call answer es kept later stands r tt (receive_still k answer) (touches_rest ds call answer es kept later stands refl stays) stays
+    still_goes ds call answer es kept later stands r tt (receive_still k answer) (touches_rest ds call answer es kept later stands refl stays) (λ w d. refl) stays
     (subst (DeliveryIs (step ds call answer es)) (sym (f ∙ ap delivery_of g)) next)
 
 pub done_law : DoneLaw
@@ -150,7 +150,7 @@ done_law ds now k seq es kept later t u stands r stays e f g =
           ∙ ap (λ x. cond (late_at at x) t.able (mask_with t.able k)) (sym own);
       noted_is = refl;
     }) in
-    still_goes ds call Done es kept later stands r tt (finish_still now k seq Done) (touches_rest ds call Done es kept later stands refl stays) stays
+    still_goes ds call Done es kept later stands r tt (finish_still now k seq Done) (touches_rest ds call Done es kept later stands refl stays) (λ w d. refl) stays
     (subst (DeliveryIs (step ds call Done es)) (sym (f ∙ ap delivery_of (g ∙ ap (λ x. finished_in k seq x t) (clock_next ds call Done es kept later stands stays.queue)))) next)
   where
     turned : (b : Bool) (x y : ℕ) → cond (not b) x y ≡ cond b y x

@@ -23,7 +23,7 @@ use Rattle.dispatcher.specs.Carrying.{CarriesSome, IsOf}
 use Rattle.dispatcher.specs.Keying.{target_number}
 use Rattle.dispatcher.specs.Tables.{kept, Goes}
 use Rattle.dispatcher.proofs.Gone.{room_gone, both_gone}
-use Rattle.dispatcher.proofs.Going.{Keyed}
+use Rattle.dispatcher.proofs.Going.{Keyed, still_gift}
 use Rattle.dispatcher.proofs.Calls.{sent_same}
 use Rattle.dispatcher.proofs.NoOps.{no_op_at}
 
@@ -83,6 +83,7 @@ pilfers c d place clk lost gained old new l g lives spy holds some =
           let is : IsOf (PilferMark d c) None (target_number old.focus) [] 0 0 r =
           subst (λ n. IsOf (PilferMark d c) None (target_number old.focus) [] n 0 r) l
           (subst (λ n. IsOf (PilferMark d c) None (target_number old.focus) [] lost n r) g some.is) in
+          let st = (other_steps old.displays es (kept queue old) stands).pilfers now c d r.watchers in
           sent_same old.displays (Pilfer now c d) Done es queue later place clk old new r (PilferMark d c) None [] from.mid
           (record {
             place_is = at;
@@ -100,7 +101,8 @@ pilfers c d place clk lost gained old new l g lives spy holds some =
           (record { windows_are = refl; origins_are = λ w low high. refl })
           refl
           (keyed_stays old.focus from.mid.live (λ t. (input_of old.channels t).keys) (target_of old.focus) refl)
-          ((other_steps old.displays es (kept queue old) stands).pilfers now c d r.watchers);
+          st
+          (still_gift old.displays (Pilfer now c d) Done es old r (PilferMark d c) (target_number old.focus) [] 0 0 is st);
       displays_are = some.carries.carries.displays_are;
       gone_are =
           both_gone old.channels some.carries.mid new.channels (room_gone old.channels some.carries.mid some.carries.same) some.carries.carries.gone_are;

@@ -33,7 +33,7 @@ use Rattle.dispatcher.specs.Keying.{target_number, only_live, listening, cancell
 use Rattle.dispatcher.specs.Anr.{Names}
 use Rattle.dispatcher.specs.Tables.{kept, Goes}
 use Rattle.dispatcher.proofs.Gone.{room_gone, both_gone, named_gone}
-use Rattle.dispatcher.proofs.Going.{round_sent, Keyed, IsLive, StillGoes, still_round, still_step}
+use Rattle.dispatcher.proofs.Going.{round_sent, Keyed, IsLive, StillGoes, still_round, still_step, still_gift}
 use Rattle.dispatcher.specs.Needing.{LeavesFocus}
 use Rattle.dispatcher.specs.Showing.{Shows, origins_from}
 use Rattle.dispatcher.proofs.Calls.{target_lives, no_focus_sent, not_both}
@@ -97,6 +97,7 @@ refocused call place clock old mid mark lost gained g shown some sending rises r
             clock_is = goes.clock_is ∙ clk;
             shown = shows now;
             touches = from.carries.touches;
+            covers = from.carries.covers;
             focus = subst (λ n. FocusGoes (call now) shown.windows n old.focus g) (sym same) (focus now);
             changes = sends_change lost gained from.mid.live old.focus g l h;
             lives = subst (IsLive (target_of old.focus)) (sym same) (target_lives old.displays es (kept queue old) (target_of old.focus) stands refl);
@@ -111,7 +112,8 @@ refocused call place clock old mid mark lost gained g shown some sending rises r
           (subst (λ p. GoesRound (call now) Done r p.live (kept queue old) (kept later new)) (sym (part now later.clock from.mid))
           (still_round (call now) Done queue later place clock old new r mark None keys lost gained from.mid.live is))
           (still_step old.displays (call now) Done es old r mark None (target_number old.focus) keys lost gained some.is (st es now r.watchers queue stands))
-          (subst (λ p. SendsRound r old.touches old.shown.origins clock p new.channels) (sym (part now later.clock from.mid)) from.carries.channels);
+          (still_gift old.displays (call now) Done es old r mark (target_number old.focus) keys lost gained some.is (st es now r.watchers queue stands))
+          (subst (λ p. SendsRound r old.touches new.covers old.shown.origins clock p new.channels) (sym (part now later.clock from.mid)) from.carries.channels);
       displays_are = some.carries.carries.displays_are;
       gone_are =
           both_gone old.channels some.carries.mid mid.channels (room_gone old.channels some.carries.mid some.carries.same) some.carries.carries.gone_are;
@@ -140,6 +142,7 @@ names_some mask place clock old new small due n =
             clock_is = goes.clock_is ∙ clk;
             shown = subst (λ x. ShownGoes (Tick now) old.shown x) (sym n.carries.shown_is) (record { windows_are = refl; origins_are = λ w low high. refl });
             touches = n.carries.touches;
+            covers = n.carries.covers;
             focus = n.carries.focus_is;
             changes = subst (λ f. SendsFocus 0 0 n.mid.live old.focus f) (sym n.carries.focus_is) (no_focus_sent n.mid.live old.focus);
             lives = subst (IsLive (target_of old.focus)) (sym same) (target_lives old.displays es (kept queue old) (target_of old.focus) stands refl);
@@ -163,7 +166,9 @@ names_some mask place clock old new small due n =
           (still_round (Tick now) (Named mask) queue later place clock old new r (Mute mask) None keys 0 0 n.mid.live is)
           (still_step old.displays (Tick now) (Named mask) es old r (Mute mask) None (target_number old.focus) keys 0 0 n.is
           ((other_steps old.displays es (kept queue old) stands).ticks now mask r.watchers))
-          (subst (λ m. SendsRound r old.touches old.shown.origins clock (named_in mask m n.mid) new.channels) (sym (goes.clock_is ∙ clk)) n.carries.channels);
+          (still_gift old.displays (Tick now) (Named mask) es old r (Mute mask) (target_number old.focus) keys 0 0 n.is
+          ((other_steps old.displays es (kept queue old) stands).ticks now mask r.watchers))
+          (subst (λ m. SendsRound r old.touches new.covers old.shown.origins clock (named_in mask m n.mid) new.channels) (sym (goes.clock_is ∙ clk)) n.carries.channels);
       displays_are = n.carries.displays_are;
       gone_are = both_gone old.channels n.mid new.channels (room_gone old.channels n.mid n.same)
           (named_gone mask clock n.mid new.channels n.carries.gone_are);

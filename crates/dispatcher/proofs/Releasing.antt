@@ -28,7 +28,7 @@ lets_go es old u c s stands low high keeps is =
     let r = old.routing in
     let new : Routing = record r { channels = u } in
     (release_law r.displays es (kept old.queueing r) (kept old.queueing new) r.channels u c s stands
-    (record { queue_is = refl; shown_is = refl; touches_are = refl; focus_is = refl; repeat_is = refl })
+    (record { queue_is = refl; shown_is = refl; touches_are = refl; covers_are = refl; focus_is = refl; repeat_is = refl })
     refl
     refl
     (ap input_of is)
@@ -138,7 +138,7 @@ anrs_go es old u stands is =
     let r = old.routing in
     let new : Routing = record r { channels = u } in
     anrs_go_law r.displays es (kept old.queueing r) (kept old.queueing new) r.channels u stands
-    (record { queue_is = refl; shown_is = refl; touches_are = refl; focus_is = refl; repeat_is = refl })
+    (record { queue_is = refl; shown_is = refl; touches_are = refl; covers_are = refl; focus_is = refl; repeat_is = refl })
     refl
     refl
     (ap input_of is)

@@ -175,6 +175,7 @@ remove_law ds now c es k later t stands e f reply goes =
             is_mark = other_law s k.touches (Forget c) (step_at call Done es) (touches_scene_law ds es k.touches stands.knows.touches) refl;
             changes = goes.touches;
           };
+      covers = record { gift = None; is_gift = λ w d. refl; changes = goes.covers_are };
       focus_is =
           focus_goes ds call Done es k.focus later.focus k.shown.windows u.live stands.knows.keying.focus_is
           (sym (ap (λ v. v.windows) goes.shown_is) ∙ (shown_law ds call Done es k.shown later.shown stands.knows.shown shown).windows_are)

@@ -15,6 +15,7 @@ use Rattle.dispatch_channels.specs.Table.{Table, opened, channel_of, input_of, u
 use Rattle.key_tables.specs.Held.{KeysAre}
 use Rattle.dispatcher.specs.Queue.{QueueIs}
 use Rattle.dispatcher.specs.Shown.{ShownIs}
+use Rattle.dispatcher.specs.Covering.{CoversAre}
 use Rattle.dispatcher.specs.Pointing.{TouchesAre}
 use Rattle.dispatcher.specs.Input.{InputIs}
 use Rattle.dispatcher.specs.Knows.{Kept, KeyingIs, KeptStandsFor}
@@ -84,6 +85,7 @@ same_knows ds es k later s same delivery inputs =
             queue = subst (QueueIs es) (sym same.queue_is) s.knows.queue;
             shown = subst (ShownIs es) (sym same.shown_is) s.knows.shown;
             touches = subst (TouchesAre es) (sym same.touches_are) s.knows.touches;
+            covers = subst (CoversAre es) (sym same.covers_are) s.knows.covers;
             delivery = delivery;
             inputs = inputs;
             keying =

@@ -10,6 +10,7 @@ use Rattle.dispatch_history.specs.Effect.{Effect}
 use Rattle.dispatch_tables.specs.Channel.{Holds}
 use Rattle.dispatch_tables.specs.Delivery.{DeliveryIs}
 use Rattle.dispatch_channels.specs.Table.{Table, opened, channel_of, input_of, unsent, but_for_room}
+use Rattle.window_covers.specs.Covers.{CoverTable}
 use Rattle.dispatcher.specs.Queue.{Queue}
 use Rattle.dispatcher.specs.Shown.{Shown}
 use Rattle.dispatcher.specs.Input.{InputIs}
@@ -69,9 +70,9 @@ delivery_bare es t h =
     }
 
 -- what stands for a history without the room stands for it with the room
-pub stands_raw : (ds : List ℕ) (es : List Effect) (q : Queue) (w : Shown) (ts : List Touches) (t : Table) (f : FocusState) (r : Option Sent)
-    → KeptStandsFor ds es (kept_of q w ts (but_for_room t) f r) → KeptStandsFor ds es (kept_of q w ts t f r)
-stands_raw ds es q w ts t f r s =
+pub stands_raw : (ds : List ℕ) (es : List Effect) (q : Queue) (w : Shown) (ts : List Touches) (cs : CoverTable) (t : Table) (f : FocusState) (r : Option Sent)
+    → KeptStandsFor ds es (kept_of q w ts cs (but_for_room t) f r) → KeptStandsFor ds es (kept_of q w ts cs t f r)
+stands_raw ds es q w ts cs t f r s =
     record {
       lawful = s.lawful;
       rise = s.rise;
@@ -80,6 +81,7 @@ stands_raw ds es q w ts t f r s =
             queue = s.knows.queue;
             shown = s.knows.shown;
             touches = s.knows.touches;
+            covers = s.knows.covers;
             delivery = delivery_raw es t s.knows.delivery;
             inputs = λ v lives.
                 let h = subst (InputIs ds es v) (input_bare t v) (s.knows.inputs v lives) in
@@ -89,9 +91,9 @@ stands_raw ds es q w ts t f r s =
     }
 
 -- and the other way round
-pub stands_bare : (ds : List ℕ) (es : List Effect) (q : Queue) (w : Shown) (ts : List Touches) (t : Table) (f : FocusState) (r : Option Sent)
-    → KeptStandsFor ds es (kept_of q w ts t f r) → KeptStandsFor ds es (kept_of q w ts (but_for_room t) f r)
-stands_bare ds es q w ts t f r s =
+pub stands_bare : (ds : List ℕ) (es : List Effect) (q : Queue) (w : Shown) (ts : List Touches) (cs : CoverTable) (t : Table) (f : FocusState) (r : Option Sent)
+    → KeptStandsFor ds es (kept_of q w ts cs t f r) → KeptStandsFor ds es (kept_of q w ts cs (but_for_room t) f r)
+stands_bare ds es q w ts cs t f r s =
     record {
       lawful = s.lawful;
       rise = s.rise;
@@ -100,6 +102,7 @@ stands_bare ds es q w ts t f r s =
             queue = s.knows.queue;
             shown = s.knows.shown;
             touches = s.knows.touches;
+            covers = s.knows.covers;
             delivery = delivery_bare es t s.knows.delivery;
             inputs = λ v lives.
                 let h = s.knows.inputs v lives in

@@ -1,13 +1,16 @@
 -- A round, by which all that is kept goes one step on.
-use Rattle.std.proofs.Common.{◌≡◌, ℕ, ◌==◌, ◌&&◌, not, Bool, true, false, cond, List, ◌++◌, map, Option, Some, None, refl, sym, ap, ap₂, ◌∙◌, subst}
+use Rattle.std.proofs.Common.{◌≡◌, ℕ, ◌==◌, ◌&&◌, not, Bool, true, false, cond, List, ◌∷◌, ◌++◌, map, Option, Some, None, refl, sym, ap, ap₂, ◌∙◌, subst}
 use Rattle.std.specs.Option.{option_copied}
 use Rattle.std.proofs.lemmas.Bool.{and_parts, true≢false}
+use Rattle.std.proofs.Math.Path.{fun_ext}
 use Rattle.input_types.specs.declared.key.KeyMsg.{KeyMsg}
 use Rattle.input_types.specs.declared.message.Body.TheVariants.{Motion as MotionBody, Key}
 use Rattle.input_types.specs.declared.motion.Motion.{Motion}
 use Rattle.window_snapshot.specs.Mask.{mask_has}
 use Rattle.routing_rules.specs.Scene.{Scene, Step}
+use Rattle.routing_rules.specs.Cover.{under_all}
 use Rattle.routing_rules.specs.Given.{mark}
+use Rattle.routing_rules.specs.Marks.{covered}
 use Rattle.touch_state.specs.Touches.{Touches}
 use Rattle.route_split.specs.declared.mark.Mark.{Mark}
 use Rattle.route_split.specs.Marking.{IsMark}
@@ -25,7 +28,7 @@ use Rattle.dispatch_history.specs.Effects.{step}
 use Rattle.dispatch_history.specs.Focus.{focus_sent}
 use Rattle.dispatch_history.specs.PointerOf.{RisesIn}
 use Rattle.dispatch_history.specs.Reply.{reply_to}
-use Rattle.dispatch_history.specs.Step.{scene}
+use Rattle.dispatch_history.specs.Step.{marks, scene}
 use Rattle.dispatch_tables.specs.Lawful.{Lawful}
 use Rattle.dispatch_tables.specs.Channel.{Untouched, part_of, with_part}
 use Rattle.dispatch_tables.specs.Masks.{live_mask_after, able_mask_after}
@@ -36,16 +39,19 @@ use Rattle.key_tables.specs.Held.{key_messages, target_sent}
 use Rattle.key_tables.proofs.Focusing.{focused_reads}
 use Rattle.dispatch_channels.specs.Table.{Table, opened, channel_of, input_of, but_for_room}
 use Rattle.dispatch_round.specs.declared.round.Round.{Round}
+use Rattle.dispatch_round.specs.Bodies.{keys_to}
 use Rattle.dispatch_round.specs.Rounds.{IsStepIn, IsRound, AllHoldPointers, sent_in}
 use Rattle.dispatch_round.specs.Outgoing.{SendsAll}
-use Rattle.dispatcher.specs.Pointing.{step_at}
+use Rattle.window_covers.specs.Covers.{CoverTable}
+use Rattle.dispatcher.specs.Covering.{CoversAre, CoversStep, IsGiftAt}
+use Rattle.dispatcher.specs.Pointing.{mark_at, step_at}
 use Rattle.dispatcher.specs.Input.{InputIs}
 use Rattle.dispatcher.specs.Knows.{Kept, KeptStandsFor}
 use Rattle.dispatcher.specs.Staying.{delivery_of}
 use Rattle.dispatcher.specs.Sending.{parted_in, is_sending, sent_target, AreKeys, SendsFocus, GoesRound}
 use Rattle.dispatcher.specs.Tracking.{motions_at, bodies_at}
 use Rattle.dispatcher.specs.RoundLaws.{RoundLaw}
-use Rattle.dispatcher.proofs.ShownLaws.{shown_law, touches_scene_law}
+use Rattle.dispatcher.proofs.ShownLaws.{covers_law, shown_law, touches_scene_law}
 use Rattle.dispatcher.proofs.Replies.{kept_live}
 use Rattle.dispatcher.proofs.OwnerLaws.{clock_next}
 use Rattle.dispatcher.proofs.Refocusing.{focus_goes}
@@ -71,20 +77,23 @@ change_at lost gained w f g p q = ap₂ (λ x y. change_sent (cond x (Some false
     by_bits false false = refl
 
 -- what a round tells a live window is what the step tells it
-round_sent : (ds : List ℕ) (call : Call) (answer : Reply) (es : List Effect) (k : Kept) (later : FocusState) (r : Round) (alive w : ℕ)
-    → Lawful ds (step ds call answer es) → KeptStandsFor ds es k → FocusIs (step ds call answer es) later
+round_sent : (ds : List ℕ) (call : Call) (answer : Reply) (es : List Effect) (k : Kept) (covers : CoverTable) (later : FocusState) (r : Round) (alive w : ℕ)
+    → CoversAre (step ds call answer es) covers → Lawful ds (step ds call answer es) → KeptStandsFor ds es k → FocusIs (step ds call answer es) later
     → ((c : ℕ) → mask_has alive c ≡ live (past_of (step ds call answer es)) c)
     → AreKeys (target_of k.focus) alive (sent_target call answer k later) r.target r.keys.now
     → SendsFocus r.lost r.gained alive k.focus later
     → live (past_of (step ds call answer es)) w ≡ true
-    → sent_in r (scene ds es) (step_at call answer es) w ≡ bodies_at ds call answer es w
-round_sent ds call answer es k later r alive w l s next lives keys changes y =
+    → sent_in covers r (scene ds es) (step_at call answer es) w ≡ bodies_at ds call answer es w
+round_sent ds call answer es k covers later r alive w follows l s next lives keys changes y =
     let c = changes w (lives w ∙ y) in
     let f = is_focused (focus_of k.focus) w in
     let g = is_focused (focus_of later) w in
-    ap (λ ks. map MotionBody (motions_at ds call answer es w) ++ map Key ks ++ change_sent (change_of r.lost r.gained w))
+    let ms = motions_at ds call answer es w in
+    ap (λ cover. map MotionBody (under_all cover ms) ++ map Key (keys_to r.target r.keys.now w) ++ change_sent (change_of r.lost r.gained w))
+    (sym (fun_ext (follows w)))
+    ∙ ap (λ ks. map MotionBody (under_all (covered (mark_at ds call answer es ∷ marks es) w) ms) ++ map Key ks ++ change_sent (change_of r.lost r.gained w))
     (keys_round ds call answer es k later alive r.target r.keys.now w l s next lives keys y)
-    ∙ ap (λ bs. map MotionBody (motions_at ds call answer es w) ++ map Key (key_messages call answer es w) ++ bs)
+    ∙ ap (λ bs. map MotionBody (under_all (covered (mark_at ds call answer es ∷ marks es) w) ms) ++ map Key (key_messages call answer es w) ++ bs)
     (change_at r.lost r.gained w f g c.0 c.1 ∙ ap₂ focus_sent (focused_reads es k.focus s.knows.keying.focus_is w) (focused_reads (step ds call answer es) later next w))
 
 -- the premises of a round, by what becomes of the channels before it
@@ -95,7 +104,8 @@ pub record RoundOf (ds : List ℕ) (call : Call) (answer : Reply) (es : List Eff
   pub rises : RisesIn call
   pub goes : GoesRound call answer r p.live k later
   pub step_is : IsStepIn (scene ds es) k.touches r.mark (option_copied r.motion) r.watchers (step_at call answer es)
-  pub sends : (s : Scene) (e : Step) → IsRound s e k.touches r → AllHoldPointers s p → SendsAll changed (sent_in r s e) k.shown.origins later.queue.clock p u
+  pub gift_is : IsGiftAt ds call answer es r.gift
+  pub sends : (s : Scene) (e : Step) → IsRound s e k.touches r → AllHoldPointers s p → SendsAll changed (sent_in later.covers r s e) k.shown.origins later.queue.clock p u
   pub delivery_is : later.delivery ≡ delivery_of u
   pub inputs_are : later.inputs ≡ input_of u
 
@@ -113,7 +123,10 @@ round_goes ds call answer es k later r t p u changed new o x =
     let focus_is : FocusIs (step ds call answer es) later.focus =
     focus_goes ds call answer es k.focus later.focus later.shown.windows p.live o.stands.knows.keying.focus_is
     (shown_law ds call answer es k.shown later.shown o.stands.knows.shown o.goes.shown).windows_are lives o.goes.focus in
-    sends_goes ds call answer es k later (sent_in r s e) t p u changed new
+    let covers : CoversStep ds call answer es k.touches k.covers later.covers = record { gift = r.gift; is_gift = o.gift_is; changes = o.goes.covers } in
+    let follows : CoversAre (step ds call answer es) later.covers =
+    covers_law ds call answer es k.touches k.covers later.covers o.stands.knows.touches o.stands.knows.covers covers in
+    sends_goes ds call answer es k later (sent_in later.covers r s e) t p u changed new
     (record {
       stands = o.stands;
       delivery_was = o.delivery_was;
@@ -127,11 +140,12 @@ round_goes ds call answer es k later r t p u changed new o x =
             is_mark = round_mark s e k.touches r.mark (option_copied r.motion) r.watchers stands o.step_is;
             changes = o.goes.touches;
           };
+      covers = covers;
       focus_is = focus_is;
       repeat_is =
           repeat_round ds call answer es k later.focus later.repeat p.live later.queue.clock r.target r.keys.now lawful o.stands focus_is lives at o.goes.keys
           o.goes.repeat_is;
-      sent_is = λ w y. round_sent ds call answer es k later.focus r p.live w lawful o.stands focus_is lives o.goes.keys o.goes.changes y;
+      sent_is = λ w y. round_sent ds call answer es k later.covers later.focus r p.live w follows lawful o.stands focus_is lives o.goes.keys o.goes.changes y;
       sends =
           o.sends s e (record { stands = stands; step_is = o.step_is })
           (λ w y. (x.inputs w (sym (lives w) ∙ y)).pointers_are);
@@ -186,12 +200,12 @@ same_keys None alive outgoing other channel keys same a = a
 same_keys (Some t) alive outgoing other channel keys same a = (a.0, λ y. a.1 y ∙ same t)
 
 pub round_law : RoundLaw
-round_law ds call answer es k later r first t u changed stands e f room reply rises sending goes is sends g h =
+round_law ds call answer es k later r first t u changed stands e f room reply rises sending goes is gift sends g h =
     let k' : Kept = record k { delivery = delivery_of t; inputs = input_of t } in
     let p = parted_in call answer later.queue.clock t in
     let x = stay call answer later.queue.clock t sending in
     let now_stands : KeptStandsFor ds es k' =
-    room_law ds es k k' first t stands (record { queue_is = refl; shown_is = refl; touches_are = refl; focus_is = refl; repeat_is = refl }) e f refl refl room in
+    room_law ds es k k' first t stands (record { queue_is = refl; shown_is = refl; touches_are = refl; covers_are = refl; focus_is = refl; repeat_is = refl }) e f refl refl room in
     let was : DeliveryIs es (delivery_of t) = now_stands.knows.delivery in
     round_goes ds call answer es k' later r t p u changed (λ c. false)
     (record {
@@ -204,6 +218,7 @@ round_law ds call answer es k later r first t u changed stands e f room reply ri
             queue = goes.queue;
             shown = goes.shown;
             touches = goes.touches;
+            covers = goes.covers;
             focus = goes.focus;
             changes = goes.changes;
             keys =
@@ -212,6 +227,7 @@ round_law ds call answer es k later r first t u changed stands e f room reply ri
             repeat_is = goes.repeat_is;
           };
       step_is = is;
+      gift_is = gift;
       sends = sends;
       delivery_is = g;
       inputs_are = h;

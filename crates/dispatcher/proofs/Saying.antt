@@ -10,9 +10,13 @@ use Rattle.dispatch_history.specs.Effect.{past_of}
 use Rattle.dispatch_history.specs.Effects.{step}
 use Rattle.dispatch_history.specs.Focus.{has_focus, focus_sent}
 use Rattle.dispatch_history.specs.Said.{motion_from}
+use Rattle.dispatch_history.specs.Step.{marks}
+use Rattle.routing_rules.specs.Cover.{under_all}
+use Rattle.routing_rules.specs.Marks.{covered}
 use Rattle.dispatch_channels.specs.Heard.{body_from}
 use Rattle.key_tables.specs.Held.{key_messages}
 use Rattle.key_tables.proofs.Saying.{said_parts}
+use Rattle.dispatcher.specs.Pointing.{mark_at}
 use Rattle.dispatcher.specs.Tracking.{motions_at}
 use Rattle.dispatcher.specs.RoundLaws.{SaidLaw}
 
@@ -38,7 +42,7 @@ joined (x ∷ xs) ys zs = ap (λ bs. x ∷ bs) (joined xs ys zs)
 pub said_law : SaidLaw
 said_law ds call answer es w lives =
     let o = origin (past_of es) w in
-    let ms = motions_at ds call answer es w in
+    let ms = under_all (covered (mark_at ds call answer es ∷ marks es) w) (motions_at ds call answer es w) in
     let ks = key_messages call answer es w in
     let f = focus_sent (has_focus (past_of es) w) (has_focus (past_of (step ds call answer es)) w) in
     said_parts ds call answer es w lives

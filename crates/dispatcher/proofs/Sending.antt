@@ -27,6 +27,7 @@ use Rattle.dispatch_channels.specs.Heard.{body_from}
 use Rattle.dispatch_channels.specs.Table.{Table, opened, channel_of, input_of}
 use Rattle.dispatch_round.specs.Bodies.{TracksAll}
 use Rattle.dispatch_round.specs.Outgoing.{SendsAll, heard, origin_at}
+use Rattle.dispatcher.specs.Covering.{CoversStep}
 use Rattle.dispatcher.specs.Queue.{QueueGoes}
 use Rattle.dispatcher.specs.Shown.{ShownGoes}
 use Rattle.dispatcher.specs.Pointing.{TouchesGo}
@@ -66,6 +67,7 @@ pub record SendsOf (ds : List ℕ) (call : Call) (answer : Reply) (es : List Eff
   pub queue : QueueGoes call answer k.queue later.queue
   pub shown : ShownGoes call k.shown later.shown
   pub touches : TouchesGo ds call answer es k.queue.place k.touches later.touches
+  pub covers : CoversStep ds call answer es k.touches k.covers later.covers
   pub focus_is : FocusIs (step ds call answer es) later.focus
   pub repeat_is : RepeatIs (step ds call answer es) later.repeat
   pub sent_is : (w : ℕ) → live (past_of (step ds call answer es)) w ≡ true → outgoing w ≡ bodies_at ds call answer es w
@@ -88,6 +90,7 @@ sends_goes ds call answer es k later outgoing t p u changed new o x =
       queue = o.queue;
       shown = o.shown;
       touches = o.touches;
+      covers = o.covers;
       delivery = subst (DeliveryIs later_es) (sym o.delivery_is) delivery;
       inputs = inputs;
       keying = record { focus_is = o.focus_is; repeat_is = o.repeat_is };

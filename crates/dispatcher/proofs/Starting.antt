@@ -21,6 +21,7 @@ knows_first ds k f =
             queue = record { clock_is = f.clock_is; place_is = f.place_is; waiting_is = f.waiting_is; down_is = f.down_is };
             shown = record { windows_are = f.windows_are; origins_are = λ w low high. f.origins_are w };
             touches = start_law k.touches f.touches_are;
+            covers = λ w d. sym (f.covers_are w d);
             delivery =
                 record {
                   count_is = f.count_is;

@@ -1,5 +1,5 @@
 -- All tables go one step on.
-use Rattle.std.proofs.Common.{◌≡◌, ℕ, max, ◌<◌, Bool, true, false, cond, List, slice_get, slice_set, Option, Some, None, Result, Ok, Err, IfOk, OnOk, refl, sym, ap, ◌∙◌, subst, arith}
+use Rattle.std.proofs.Common.{◌≡◌, ℕ, max, ◌<◌, Bool, true, false, cond, List, slice_get, slice_set, Option, Some, None, refl, sym, ap, ◌∙◌, subst, arith}
 use Rattle.std.proofs.lemmas.Bool.{true≢false}
 use Rattle.window_snapshot.specs.Mask.{mask_has}
 use Rattle.window_snapshot.proofs.Masks.{mask_has-zero}
@@ -103,6 +103,7 @@ pumps_free es q r n s =
             queue = record { clock_is = i.clock_is; place_is = i.place_is; waiting_is = i.waiting_is; down_is = i.down_is };
             shown = s.knows.shown;
             touches = s.knows.touches;
+            covers = s.knows.covers;
             delivery = s.knows.delivery;
             inputs = s.knows.inputs;
             keying = s.knows.keying;

@@ -6,19 +6,23 @@ use Rattle.input_types.specs.declared.key.KeyMsg.{KeyMsg}
 use Rattle.input_types.specs.declared.message.Body.{Body}
 use Rattle.input_types.specs.declared.message.Body.TheVariants.{Motion as MotionBody, Key}
 use Rattle.input_types.specs.declared.motion.Motion.{Motion}
+use Rattle.input_types.specs.declared.motion.MotionAction.{MotionAction}
+use Rattle.input_types.specs.declared.motion.MotionAction.TheVariants.{Down, Up, Move, Cancel, Outside, PointerDown, PointerUp}
 use Rattle.input_types.specs.declared.pointer.Pointer.{Pointer}
 use Rattle.cancel_synthesis.specs.Tracked.{pointers_of, pointers_then, pointers_after}
 use Rattle.cancel_synthesis.specs.Laws.{pointers_sent}
+use Rattle.routing_rules.specs.Cover.{Cover, flags_under, with_flags, under_all}
 use Rattle.routing_rules.specs.Given.{mark}
+use Rattle.routing_rules.specs.Marks.{covered}
 use Rattle.routing_rules.specs.Outgoing.{outgoing, devices}
 use Rattle.dispatch_history.specs.Effect.{past_of}
 use Rattle.dispatch_history.specs.Effects.{step}
 use Rattle.dispatch_history.specs.Focus.{has_focus, focus_sent}
-use Rattle.dispatch_history.specs.Step.{scene}
+use Rattle.dispatch_history.specs.Step.{marks, scene}
 use Rattle.dispatch_history.proofs.SentMotions.{AllOf, sent_of, Differ, devices_differ}
 use Rattle.key_tables.specs.Held.{key_messages}
 use Rattle.key_tables.proofs.Tracking.{bodies_tracked_law}
-use Rattle.dispatcher.specs.Pointing.{step_at}
+use Rattle.dispatcher.specs.Pointing.{mark_at, step_at}
 use Rattle.dispatch_round.specs.Bodies.{pointers_tracked}
 use Rattle.dispatcher.specs.Tracking.{motions_at}
 use Rattle.dispatcher.specs.Laws.{TracksAllLaw}
@@ -44,6 +48,22 @@ own d [] ps all = refl
 own d (m ∷ ms) ps all =
     ap (λ b. pointers_tracked (map MotionBody ms) d (cond b (pointers_after m m.action ps) ps)) (eq-eqb m.device d all.0)
     ∙ own d ms (pointers_after m m.action ps) all.1
+
+-- flags change nothing
+after_under : (f : ℕ) (m : Motion) (a : MotionAction) (ps : List Pointer) → pointers_after (with_flags f m) a ps ≡ pointers_after m a ps
+after_under f m Down ps = refl
+after_under f m Up ps = refl
+after_under f m Move ps = refl
+after_under f m Cancel ps = refl
+after_under f m Outside ps = refl
+after_under f m PointerDown ps = refl
+after_under f m PointerUp ps = refl
+
+covers_leave : (cover : ℕ → Cover) (ms : List Motion) (d : ℕ) (ps : List Pointer) → pointers_tracked (map MotionBody (under_all cover ms)) d ps ≡ pointers_tracked (map MotionBody ms) d ps
+covers_leave cover [] d ps = refl
+covers_leave cover (m ∷ ms) d ps =
+    ap (λ qs. pointers_tracked (map MotionBody (under_all cover ms)) d (cond (m.device == d) qs ps)) (after_under (flags_under m.action (cover m.device) m.flags) m m.action ps)
+    ∙ covers_leave cover ms d (pointers_then (MotionBody m) d ps)
 
 keys_leave : (ks : List KeyMsg) (d : ℕ) (ps : List Pointer) → pointers_tracked (map Key ks) d ps ≡ ps
 keys_leave [] d ps = refl
@@ -98,7 +118,9 @@ is_listed_device (suc (suc (suc (suc (suc (suc (suc (suc (suc n))))))))) low hig
 
 pub tracks_all : TracksAllLaw
 tracks_all ds call answer es w old new t =
-    let ms = motions_at ds call answer es w in
+    let raw = motions_at ds call answer es w in
+    let cover = covered (mark_at ds call answer es ∷ marks es) w in
+    let ms = under_all cover raw in
     let ks = key_messages call answer es w in
     let a = has_focus (past_of es) w in
     let b = has_focus (past_of (step ds call answer es)) w in
@@ -111,6 +133,7 @@ tracks_all ds call answer es w old new t =
           ∙ focus_leaves a b d (pointers_tracked (map MotionBody ms ++ map Key ks) d (pointers_of old d))
           ∙ tracked_append (map MotionBody ms) (map Key ks) d (pointers_of old d)
           ∙ keys_leave ks d (pointers_tracked (map MotionBody ms) d (pointers_of old d))
+          ∙ covers_leave cover raw d (pointers_of old d)
           ∙ one_of_devices (outgoing s e w) d devices (pointers_of old d) (λ v. sent_of s e (mark s e) w v) devices_differ (is_listed_device d low high);
       keys_are = t.keys_are ∙ bodies_tracked_law ms ks a b old.keys;
     }

@@ -1,11 +1,14 @@
 -- A dispatcher after a call.
-use Rattle.std.specs.Prelude.{◌≡◌, ◌≤◌, ◌+◌, ℕ, true, List, Result, IsOk}
+use Rattle.std.specs.Prelude.{◌≡◌, ◌≤◌, ◌+◌, ℕ, true, false, List, Result, IsOk}
+use Rattle.input_types.specs.declared.message.Args.{Args}
 use Rattle.dispatch_calls.specs.declared.call.Call.{Call}
+use Rattle.dispatch_calls.specs.declared.call.Call.TheVariants.{Notify}
 use Rattle.dispatch_calls.specs.declared.reply.Reply.{Reply}
+use Rattle.dispatch_calls.specs.declared.reply.Reply.TheVariants.{Taken}
 use Rattle.dispatch_history.specs.Effect.{Effect}
 use Rattle.dispatch_history.specs.Legal.{answered}
 use Rattle.dispatch_history.specs.Reply.{reply_to}
-use Rattle.dispatcher.specs.Access.{gone, anrs_released}
+use Rattle.dispatcher.specs.Access.{gone, anrs_released, is_waiting}
 use Rattle.dispatcher.specs.Dispatching.{Dispatching, IsAfter, StandsFor}
 use Rattle.dispatcher.specs.Memory.{IsCalm, MayCount}
 use Rattle.dispatcher.specs.Queueing.{args_in, is_pump}
@@ -19,6 +22,16 @@ pub record StepsOn (call : Call) (old new : Dispatching) : Type 0 where
   pub gone_are : (c : ℕ) → 1 ≤ c → gone new c ≡ gone old c
   pub anrs_are : anrs_released new ≡ anrs_released old
   pub room_is : old.queue.spare ≤ new.queue.spare + args_in call
+
+-- the dispatcher made one call and then another
+pub record StepsTwice (first second : Call) (old new : Dispatching) : Type 0 where
+  pub between : Dispatching
+  pub first_made : StepsOn first old between
+  pub second_made : StepsOn second between new
+
+-- args need not wait: no others do, and they may follow what is down on their device
+abbrev pub NeedNotWait : List Effect → (now : ℕ) → Args → Type 0
+NeedNotWait es now args = (is_waiting es ≡ false) × (reply_to es (Notify now args) ≡ Taken)
 
 -- The dispatcher made the call and answered it so: this is the reply after each history that it stood for.
 pub record Answers (call : Call) (answer : Reply) (old new : Dispatching) : Type 0 where

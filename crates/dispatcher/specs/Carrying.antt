@@ -18,6 +18,8 @@ use Rattle.dispatch_round.specs.declared.round.Round.{Round}
 use Rattle.dispatch_round.specs.Rounds.{IsRound, AllHoldPointers, sent_in, may_take}
 use Rattle.dispatch_round.specs.Outgoing.{SendsAll}
 use Rattle.dispatcher.specs.declared.tables.Routing.{Routing}
+use Rattle.window_covers.specs.Covers.{CoverTable}
+use Rattle.dispatcher.specs.Covering.{CoversGo, GivesNone}
 use Rattle.dispatcher.specs.Keying.{target_number}
 use Rattle.dispatcher.specs.Tables.{LetsNoneGo}
 
@@ -27,16 +29,17 @@ TakesMark mark place old new = ChangesAll old new (gives mark) (takes (taking ol
 
 -- Channels of a mask are told what the rules say of a step, in whichever scene it is the step of this round, and no other is sent
 -- anything.
-pub record SendsRound (round : Round) (touches : List Touches) (origins : List Pixel) (clock : ℕ) (old new : Table) : Type 0 where
+pub record SendsRound (round : Round) (touches : List Touches) (covers : CoverTable) (origins : List Pixel) (clock : ℕ) (old new : Table) : Type 0 where
   pub changed : ℕ
   pub sends :
       (s : Scene) (e : Step)
-      → IsRound s e touches round → AllHoldPointers s old → SendsAll changed (sent_in round s e) origins clock old new
+      → IsRound s e touches round → AllHoldPointers s old → SendsAll changed (sent_in covers round s e) origins clock old new
 
 -- a round is carried out: windows are sent it, pointers change hands, and the last key message is kept
 pub record CarriesOut (round : Round) (place clock : ℕ) (old new : Routing) : Type 0 where
   pub touches : TakesMark round.mark place old.touches new.touches
-  pub channels : SendsRound round old.touches old.shown.origins clock old.channels new.channels
+  pub covers : CoversGo round.gift old.touches old.covers new.covers
+  pub channels : SendsRound round old.touches new.covers old.shown.origins clock old.channels new.channels
   pub gone_are : LetsNoneGo old.channels new.channels
   pub repeat_is : new.repeat ≡ repeat_after clock round.target round.keys.now old.repeat
   pub displays_are : new.displays ≡ old.displays
@@ -49,10 +52,11 @@ pub record CarriesFrom (round : Round) (place clock : ℕ) (old new : Routing) :
   pub same : but_for_room mid ≡ but_for_room old.channels
   pub carries : CarriesOut round place clock (record old { channels = mid }) new
 
--- what a round is: its mark, its motion, the key target and what that is sent, and who loses and gains the focus
+-- what a round is: its mark, its motion, without which it gives nothing, the key target and what that is sent, and who loses and gains the focus
 pub record IsOf (mark : Mark) (motion : Option Motion) (target : ℕ) (keys : List KeyMsg) (lost gained : ℕ) (r : Round) : Type 0 where
   pub mark_is : r.mark ≡ mark
   pub motion_is : option_copied r.motion ≡ motion
+  pub gift_is : GivesNone motion r.gift
   pub target_is : r.target ≡ target
   pub keys_are : r.keys.now ≡ keys
   pub lost_is : r.lost ≡ lost

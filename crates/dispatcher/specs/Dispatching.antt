@@ -8,6 +8,7 @@ use Rattle.dispatch_history.specs.Effect.{Effect, past_of}
 use Rattle.dispatch_history.specs.PointerOf.{AllRise}
 use Rattle.dispatch_tables.specs.Channel.{MayGo}
 use Rattle.dispatch_tables.specs.Lawful.{Lawful}
+use Rattle.window_covers.specs.Covers.{CoverTable}
 use Rattle.dispatcher.specs.Queue.{Queue}
 use Rattle.dispatcher.specs.Queueing.{with_room as queue_with_room, with_args_room as queue_with_args_room}
 use Rattle.dispatcher.specs.Shown.{Shown}
@@ -21,18 +22,20 @@ pub record Dispatching : Type 0 where
   pub queue : Queue
   pub shown : Shown
   pub touches : List Touches
+  pub covers : CoverTable
   pub channels : Table
   pub focus : FocusState
   pub repeat : Option Sent
 
 -- what is seen of tables in which channels have room
-abbrev pub seen_of : List ℕ → Queue → Shown → List Touches → Table → FocusState → Option Sent → Dispatching
-seen_of displays queue shown touches channels focus repeat =
+abbrev pub seen_of : List ℕ → Queue → Shown → List Touches → CoverTable → Table → FocusState → Option Sent → Dispatching
+seen_of displays queue shown touches covers channels focus repeat =
     record {
       displays = displays;
       queue = queue;
       shown = shown;
       touches = touches;
+      covers = covers;
       channels = but_for_room channels;
       focus = focus;
       repeat = repeat;
@@ -48,7 +51,7 @@ with_room n d = record d { queue = queue_with_room n d.queue }
 
 -- what is kept in place of a history
 abbrev pub kept : Dispatching → Kept
-kept d = kept_of d.queue d.shown d.touches d.channels d.focus d.repeat
+kept d = kept_of d.queue d.shown d.touches d.covers d.channels d.focus d.repeat
 
 -- it is as after a legal history with these effects, but for messages that were let go, received or not
 abbrev pub IsAfter : List Effect → Dispatching → Type 0

@@ -4,11 +4,13 @@ use Rattle.inbound.specs.Down.{DevicesStandFor}
 use Rattle.window_snapshot.specs.Origins.{corner}
 use Rattle.dispatch_tables.specs.Delivery.{none_noted}
 use Rattle.route_split.specs.Tables.{table_of, IsFresh}
+use Rattle.routing_rules.specs.Cover.{clear}
+use Rattle.window_covers.specs.Covers.{cover_in}
 use Rattle.dispatcher.specs.Shown.{origin_at}
 use Rattle.dispatcher.specs.Knows.{Kept}
 
 -- The clock is at 0, no step was made, nothing waits and nothing is down; no windows are shown, and each origin is the corner of the
--- display; nobody holds anything, no channel was opened, the focus is at no channel, and no key is to be repeated.
+-- display; nobody holds anything, nothing lies over a window, no channel was opened, the focus is at no channel, and no key is to be repeated.
 pub record IsFirst (k : Kept) : Type 0 where
   pub clock_is : k.queue.clock ≡ 0
   pub place_is : k.queue.place ≡ 0
@@ -17,6 +19,7 @@ pub record IsFirst (k : Kept) : Type 0 where
   pub windows_are : k.shown.windows ≡ []
   pub origins_are : (w : ℕ) → origin_at k.shown.origins w ≡ corner
   pub touches_are : (d : ℕ) → IsFresh (table_of k.touches d)
+  pub covers_are : (w d : ℕ) → cover_in k.covers w d ≡ clear
   pub count_is : k.delivery.count ≡ 0
   pub live_is : k.delivery.live ≡ 0
   pub able_is : k.delivery.able ≡ 0

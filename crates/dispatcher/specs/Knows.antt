@@ -17,14 +17,17 @@ use Rattle.key_tables.specs.Repeats.{RepeatIs}
 use Rattle.dispatcher.specs.Queue.{Queue, QueueIs, QueueGoes}
 use Rattle.dispatcher.specs.Shown.{Shown, ShownIs, ShownGoes}
 use Rattle.dispatcher.specs.Pointing.{TouchesAre, TouchesGo}
+use Rattle.window_covers.specs.Covers.{CoverTable}
+use Rattle.dispatcher.specs.Covering.{CoversAre, CoversStep}
 use Rattle.dispatcher.specs.Input.{InputIs, InputGoes}
 
--- what a dispatcher keeps: the clock and the queue, the windows, who holds what, the channels with what the window of each was sent
+-- what a dispatcher keeps: the clock and the queue, the windows, who holds what and what lies over them, the channels with what the window of each was sent
 -- and is not told the end of, the focus, and the last key message
 pub record Kept : Type 0 where
   pub queue : Queue
   pub shown : Shown
   pub touches : List Touches
+  pub covers : CoverTable
   pub delivery : Delivery
   pub inputs : ℕ → Tracked
   pub focus : FocusState
@@ -40,6 +43,7 @@ pub record Knows (displays : List ℕ) (es : List Effect) (k : Kept) : Type 0 wh
   pub queue : QueueIs es k.queue
   pub shown : ShownIs es k.shown
   pub touches : TouchesAre es k.touches
+  pub covers : CoversAre es k.covers
   pub delivery : DeliveryIs es k.delivery
   pub inputs : (w : ℕ) → live (past_of es) w ≡ true → InputIs displays es w (k.inputs w)
   pub keying : KeyingIs es k.focus k.repeat
@@ -56,6 +60,7 @@ pub record Goes (displays : List ℕ) (call : Call) (answer : Reply) (es : List 
   pub queue : QueueGoes call answer k.queue later.queue
   pub shown : ShownGoes call k.shown later.shown
   pub touches : TouchesGo displays call answer es k.queue.place k.touches later.touches
+  pub covers : CoversStep displays call answer es k.touches k.covers later.covers
   pub changed : ℕ → Bool
   pub delivery :
       GoesOn call answer es (said_at displays call answer es) (clock (past_of (step displays call answer es))) changed k.delivery

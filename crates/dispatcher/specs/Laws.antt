@@ -30,6 +30,8 @@ use Rattle.key_repeat.specs.Due.{Sent}
 use Rattle.key_tables.specs.Focused.{leaves_focus}
 use Rattle.dispatcher.specs.Input.{InputIs, InputGoes}
 use Rattle.dispatcher.specs.Knows.{Kept, KeyingIs, KeptStandsFor, Goes}
+use Rattle.window_covers.specs.Covers.{CoverTable}
+use Rattle.dispatcher.specs.Covering.{CoversAre, CoversStep}
 use Rattle.dispatcher.specs.Pointing.{TouchesAre, TouchesGo, PointersAre, PointersGo}
 use Rattle.dispatcher.specs.First.{IsFirst}
 use Rattle.dispatcher.specs.Replying.{reply_by, IsOfDevice, MayHand}
@@ -55,6 +57,12 @@ abbrev pub TouchesLaw : Type 0
 TouchesLaw =
     (displays : List ℕ) (call : Call) (answer : Reply) (es : List Effect) (old new : List Touches)
     → TouchesAre es old → TouchesGo displays call answer es (length es) old new → TouchesAre (step displays call answer es) new
+
+-- So does what lies over windows.
+abbrev pub CoversLaw : Type 0
+CoversLaw =
+    (displays : List ℕ) (call : Call) (answer : Reply) (es : List Effect) (ts : List Touches) (old new : CoverTable)
+    → TouchesAre es ts → CoversAre es old → CoversStep displays call answer es ts old new → CoversAre (step displays call answer es) new
 
 -- The tables of touches stand for the scene after a history.
 abbrev pub TouchesSceneLaw : Type 0

@@ -2,6 +2,7 @@ pub mod Outcomes
 pub mod Queue
 pub mod Shown
 pub mod Pointing
+pub mod Covering
 pub mod Input
 pub mod Knows
 pub mod First

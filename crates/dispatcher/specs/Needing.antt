@@ -1,5 +1,5 @@
 -- Which requests need no memory, by what is kept.
-use Rattle.std.specs.Prelude.{◌≡◌, ◌<◌, ℕ, slice_set, Option}
+use Rattle.std.specs.Prelude.{◌≡◌, ℕ, slice_set, Option}
 use Rattle.focus_resolver.specs.Resolver.{FocusState, focus_of, is_focused, target_of}
 
 -- a request leaves who has the focus and where keys go

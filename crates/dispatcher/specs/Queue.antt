@@ -1,5 +1,5 @@
 -- What is kept of the clock, of args that wait and of what is down, and what a step makes of it.
-use Rattle.std.specs.Prelude.{◌≡◌, ℕ, suc, max, List, [], ◌∷◌, ◌++◌, drop, length, Ok}
+use Rattle.std.specs.Prelude.{◌≡◌, ℕ, ◌-◌, suc, max, List, [], ◌∷◌, ◌++◌, drop, length, Ok}
 use Rattle.input_types.specs.declared.message.Args.{Args}
 use Rattle.inbound.specs.declared.change.Change.{Change}
 use Rattle.inbound.specs.Kept.{Kept}
@@ -47,3 +47,8 @@ pub record QueueGoes (call : Call) (answer : Reply) (k later : Queue) : Type 0 w
   pub place_is : later.place ≡ suc k.place
   pub waiting_is : later.waiting ≡ waiting_after call answer k.waiting
   pub down_is : DownGoes call answer k.down later.down
+
+-- two steps go by, with which args are taken and dispatched at once: what is down changes as is planned for them, and nothing is queued
+pub record Passes (now : ℕ) (change : Change) (k later : Queue) : Type 0 where
+  pub changes : Changes change k.down later.down
+  pub is : later ≡ record k { clock = max now k.clock; place = suc (suc k.place); pumps = k.pumps - 1; down = later.down }

@@ -32,6 +32,7 @@ pub record SameBut (k later : Kept) : Type 0 where
   pub queue_is : later.queue ≡ k.queue
   pub shown_is : later.shown ≡ k.shown
   pub touches_are : later.touches ≡ k.touches
+  pub covers_are : later.covers ≡ k.covers
   pub focus_is : later.focus ≡ k.focus
   pub repeat_is : later.repeat ≡ k.repeat
 

@@ -37,6 +37,7 @@ use Rattle.dispatch_channels.specs.Changes.{Opens}
 use Rattle.dispatch_round.specs.declared.round.Round.{Round}
 use Rattle.dispatch_round.specs.Rounds.{IsStepIn, IsRound, AllHoldPointers, sent_in}
 use Rattle.dispatch_round.specs.Outgoing.{SendsAll}
+use Rattle.dispatcher.specs.Covering.{IsGiftAt}
 use Rattle.dispatcher.specs.Pointing.{step_at}
 use Rattle.dispatcher.specs.Knows.{Kept, KeptStandsFor}
 use Rattle.dispatcher.specs.Staying.{delivery_of}
@@ -64,10 +65,11 @@ RoundLaw =
     → is_sending call answer ≡ true
     → GoesRound call answer r (parted_in call answer later.queue.clock t).live k later
     → IsStepIn (scene displays es) k.touches r.mark (option_copied r.motion) r.watchers (step_at call answer es)
+    → IsGiftAt displays call answer es r.gift
     → ((s : Scene) (e : Step)
     → IsRound s e k.touches r
     → AllHoldPointers s (parted_in call answer later.queue.clock t)
-    → SendsAll changed (sent_in r s e) k.shown.origins later.queue.clock (parted_in call answer later.queue.clock t) u)
+    → SendsAll changed (sent_in later.covers r s e) k.shown.origins later.queue.clock (parted_in call answer later.queue.clock t) u)
     → later.delivery ≡ delivery_of u
     → later.inputs ≡ input_of u
     → KeptStandsFor displays (step displays call answer es) later
@@ -92,8 +94,9 @@ OpenLaw =
     → OpensWith limit number t p
     → GoesRound (Open limit) (Opened number) r p.live k later
     → IsStepIn (scene displays es) k.touches r.mark (option_copied r.motion) r.watchers (step_at (Open limit) (Opened number) es)
+    → IsGiftAt displays (Open limit) (Opened number) es r.gift
     → ((s : Scene) (e : Step)
-    → IsRound s e k.touches r → AllHoldPointers s p → SendsAll changed (sent_in r s e) k.shown.origins later.queue.clock p u)
+    → IsRound s e k.touches r → AllHoldPointers s p → SendsAll changed (sent_in later.covers r s e) k.shown.origins later.queue.clock p u)
     → later.delivery ≡ delivery_of u
     → later.inputs ≡ input_of u
     → KeptStandsFor displays (step displays (Open limit) (Opened number) es) later

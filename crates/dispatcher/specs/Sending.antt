@@ -22,6 +22,7 @@ use Rattle.key_tables.specs.Repeats.{repeat_next}
 use Rattle.dispatch_channels.specs.Table.{Table, opened, channel_of, input_of}
 use Rattle.dispatch_channels.specs.Changes.{named_in, removed_in}
 use Rattle.dispatch_round.specs.declared.round.Round.{Round}
+use Rattle.dispatcher.specs.Covering.{CoversGo}
 use Rattle.dispatcher.specs.Queue.{QueueGoes}
 use Rattle.dispatcher.specs.Shown.{ShownGoes}
 use Rattle.dispatcher.specs.Knows.{Kept}
@@ -72,12 +73,13 @@ SendsFocus lost gained alive old new =
     → (mask_has lost w ≡ (is_focused (focus_of old) w && not (is_focused (focus_of new) w)))
     × (mask_has gained w ≡ (is_focused (focus_of new) w && not (is_focused (focus_of old) w)))
 
--- What is kept goes one step on in all but the channels: queue, windows, touches by the mark of a round, the focus, whose change the round
+-- What is kept goes one step on in all but the channels: queue, windows, touches by the mark of a round, what lies over windows by its gift, the focus, whose change the round
 -- tells, and the last key message, which the round tells the key target. So many channels are live after it.
 pub record GoesRound (call : Call) (answer : Reply) (r : Round) (alive : ℕ) (k later : Kept) : Type 0 where
   pub queue : QueueGoes call answer k.queue later.queue
   pub shown : ShownGoes call k.shown later.shown
   pub touches : ChangesAll k.touches later.touches (gives r.mark) (takes (taking k.touches r.mark)) k.queue.place (pilfers (taking k.touches r.mark))
+  pub covers : CoversGo r.gift k.touches k.covers later.covers
   pub focus : FocusGoes call later.shown.windows alive k.focus later.focus
   pub changes : SendsFocus r.lost r.gained alive k.focus later.focus
   pub keys : AreKeys (target_of k.focus) alive (sent_target call answer k later.focus) r.target r.keys.now
@@ -116,6 +118,7 @@ pub record GoesRemoved (now channel : ℕ) (t : Table) (k later : Kept) : Type 0
   pub touches :
       ChangesAll k.touches later.touches (gives (Forget channel)) (takes (taking k.touches (Forget channel))) k.queue.place
       (pilfers (taking k.touches (Forget channel)))
+  pub covers_are : later.covers ≡ k.covers
   pub delivery_is : later.delivery ≡ delivery_of (removed_in channel t)
   pub inputs_are : later.inputs ≡ k.inputs
   pub focus : Refocuses k.shown.windows (removed_in channel t).live k.focus later.focus

@@ -11,11 +11,12 @@ use Rattle.dispatcher.specs.Knows.{Kept}
 abbrev pub delivery_of : Table → Delivery
 delivery_of t = record { count = opened t; channel = channel_of t; live = t.live; able = t.able; noted = t.anrs }
 
--- The queue goes on. Neither windows nor who holds what nor the focus nor the last key message change, nor anything that a window was sent.
+-- The queue goes on. Neither windows nor who holds what nor what lies over windows nor the focus nor the last key message change, nor anything that a window was sent.
 pub record StaysBut (call : Call) (answer : Reply) (k later : Kept) : Type 0 where
   pub queue : QueueGoes call answer k.queue later.queue
   pub shown_is : later.shown ≡ k.shown
   pub touches_are : later.touches ≡ k.touches
+  pub covers_are : later.covers ≡ k.covers
   pub inputs_are : later.inputs ≡ k.inputs
   pub focus_is : later.focus ≡ k.focus
   pub repeat_is : later.repeat ≡ k.repeat

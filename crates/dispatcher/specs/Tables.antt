@@ -1,8 +1,9 @@
 -- The tables, and the histories that they stand for.
 use Rattle.std.specs.Prelude.{◌≡◌, ◌≤◌, ◌<◌, ◌+◌, ◌-◌, ◌^◌, ℕ, max, Bool, true, false, List, slice_get, Option}
 use Rattle.dispatch_calls.specs.declared.call.Call.{Call}
-use Rattle.dispatch_calls.specs.declared.call.Call.TheVariants.{Notify, Pump, Receive, Finish, Remove}
+use Rattle.dispatch_calls.specs.declared.call.Call.TheVariants.{Notify, Pump, Receive}
 use Rattle.dispatch_calls.specs.declared.reply.Reply.{Reply}
+use Rattle.dispatch_calls.specs.declared.reply.Reply.TheVariants.{Taken, Dispatched}
 use Rattle.input_types.specs.declared.message.Args.{Args}
 use Rattle.dispatch_channels.specs.Table.{Table, channel_of, but_for_room, NoLessRoom}
 use Rattle.dispatch_history.specs.Effect.{Effect}
@@ -13,14 +14,13 @@ use Rattle.dispatcher.specs.Knows.{Kept}
 use Rattle.dispatcher.specs.Knows.{KeptStandsFor}
 use Rattle.dispatcher.specs.Queue.{Queue, QueueGoes}
 use Rattle.dispatcher.specs.Queueing.{args_in}
-use Rattle.dispatcher.specs.Replying.{MayHand}
 use Rattle.dispatcher.specs.declared.tables.Routing.{Routing}
 use Rattle.dispatcher.specs.declared.tables.Tables.{Tables}
 use Rattle.dispatcher.specs.Seen.{kept_of}
 
 -- what is kept, with the room that the channels have
 abbrev pub kept : Queue → Routing → Kept
-kept q r = kept_of q r.shown r.touches r.channels r.focus r.repeat
+kept q r = kept_of q r.shown r.touches r.covers r.channels r.focus r.repeat
 
 -- the tables stand for a legal history with these effects
 abbrev pub TablesStandFor : List Effect → Tables → Type 0
@@ -88,6 +88,12 @@ pub record GoesOn (call : Call) (answer : Reply) (old new : Tables) : Type 0 whe
   pub displays_are : new.routing.displays ≡ old.routing.displays
   pub gone_are : LetsNoneGo old.routing.channels new.routing.channels
   pub room_is : old.queueing.spare ≤ new.queueing.spare + args_in call
+
+-- args are handed in and dispatched, one step after the other: between the two only the queue is another
+pub record GoesThrough (now : ℕ) (args : Args) (old new : Tables) : Type 0 where
+  pub between : Queue
+  pub notified : GoesOn (Notify now args) Taken old (record old { queueing = between })
+  pub pumped : GoesOn (Pump now) Dispatched (record old { queueing = between }) new
 
 -- all are the same, but for that room
 pub record SameAll (old new : Tables) : Type 0 where

@@ -85,6 +85,7 @@ fn name(
     let round = Round {
         mark: Mark::Mute { channels: mask },
         motion: None,
+        gift: None,
         watchers: 0,
         target: routing.focus.target().unwrap_or(0),
         keys,

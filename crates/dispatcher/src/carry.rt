@@ -5,6 +5,7 @@ ghost use Rattle.route_split.specs.Marking.{IsWhole};
 ghost use Rattle.dispatch_round.specs.Rounds.{AreListeners, IsReady, IsTimely, is_concerned};
 ghost use Rattle.dispatch_round.specs.Light.{IsLight};
 ghost use Rattle.dispatcher.specs.Carrying.{IsSilent, CarriesOut, CarriesFrom, CarriesSome};
+ghost use Rattle.dispatcher.specs.Covering.{CoversGo};
 ghost use Rattle.dispatcher.specs.Keying.{target_number};
 ghost use Rattle.dispatcher.specs.Roomy.{IsRoomy, AreModest, TakesRoom};
 ghost use Rattle.dispatcher.specs.Tables.{SameButRoom};
@@ -14,8 +15,20 @@ use dispatch_round::{Round, make_light_room, make_room, send_all, send_light};
 use focus_resolver::Change;
 use input_types::{KeyMsg, Moment};
 use key_tables::remember;
-use route_split::Mark;
+use route_split::{Mark, Touches};
 use std::alloc::AllocError;
+use window_covers::Covers;
+
+/// The windows that a round gives a pointer have what lies over them there, before the tables of touches change by it.
+#[inline(always)]
+fn give(covers: &mut Covers, round: &Round, touches: &Touches)
+    ensures { CoversGo round.now.gift touches.now covers.old covers.new }
+{
+    match round.gift {
+        Some(gift) => covers.give(&gift, touches.holders(gift.device)),
+        None => {}
+    }
+}
 
 /// Carries out a round that sends to the windows of the mask `outgoing`, for which there is room. Takes no memory.
 pub(crate) fn carry_out(
@@ -33,10 +46,12 @@ pub(crate) fn carry_out(
     ensures room { TakesRoom outgoing round.now routing.old.channels routing.new.channels }
     ensures list { routing.new.cancelled ≡ routing.old.cancelled }
 {
+    give(&mut routing.covers, round, &routing.touches);
     send_all(
         outgoing,
         round,
         &mut routing.touches,
+        &routing.covers,
         &mut routing.channels,
         routing.shown.origins(),
         place,
@@ -86,10 +101,12 @@ pub(crate) fn send_lightly(
     ensures list { routing.new.cancelled ≡ routing.old.cancelled }
 {
     let outgoing = make_light_room(round, &routing.touches, &mut routing.channels)?;
+    give(&mut routing.covers, round, &routing.touches);
     send_light(
         outgoing,
         round,
         &mut routing.touches,
+        &routing.covers,
         &mut routing.channels,
         routing.shown.origins(),
         place,
@@ -117,6 +134,7 @@ pub(crate) fn send_key(
     let round = Round {
         mark: Mark::NoOp,
         motion: None,
+        gift: None,
         watchers: 0,
         target: routing.focus.target().unwrap_or(0),
         keys: &[message],
@@ -150,6 +168,7 @@ pub(crate) fn send_still(
     let round = Round {
         mark,
         motion: None,
+        gift: None,
         watchers: 0,
         target: routing.focus.target().unwrap_or(0),
         keys,

@@ -15,6 +15,7 @@ ghost use Rattle.dispatcher.specs.ReadLaws.{ReadsTouches};
 ghost use Rattle.window_snapshot.specs.Mask.{is_channel};
 ghost use Rattle.dispatcher.specs.Access.{is_opened, gone, anrs_released, messages_of, has_messages, got, oldest_delivery};
 ghost use Rattle.dispatcher.specs.Access.{is_waiting, next_repeat, HoldsInput};
+ghost use Rattle.dispatcher.specs.Covering.{CoversAre};
 ghost use Rattle.dispatcher.specs.Dispatching.{IsAfter, StandsFor};
 ghost use Rattle.dispatcher.specs.Memory.{IsCalm, MayCount};
 ghost use Rattle.dispatcher.specs.Queueing.{args_in, is_input, is_pump};
@@ -35,6 +36,7 @@ use input_types::{Displays, Message, Moment};
 use route_split::Touches;
 use std::alloc::{AllocError, Global};
 use std::marker::Model;
+use window_covers::Covers;
 use window_snapshot::mask_has;
 
 /// Routes args to windows, and answers each call as the calls before it say. It keeps what the next answers need, and
@@ -55,10 +57,10 @@ impl Model for Dispatcher {
     ghost Value = { Dispatching };
 
     ghost view = { λ d. let r = d.tables.routing in
-        seen_of r.displays d.tables.queueing r.shown r.touches r.channels r.focus r.repeat };
+        seen_of r.displays d.tables.queueing r.shown r.touches r.covers r.channels r.focus r.repeat };
 
     ghost invariant = { λ d. let r = d.tables.routing in
-        IsOfHistory (seen_of r.displays d.tables.queueing r.shown r.touches r.channels r.focus r.repeat)
+        IsOfHistory (seen_of r.displays d.tables.queueing r.shown r.touches r.covers r.channels r.focus r.repeat)
         × KeepsPromise d.tables };
 }
 
@@ -191,6 +193,14 @@ impl Dispatcher {
             → ReadsTouches self.now.displays es self.now.touches }
     {
         &self.tables.routing.touches
+    }
+
+    /// What lay over each window where it was given pointers, of the windows that hold one: exactly what the rules say.
+    pub fn covers(&self) -> &Covers
+        ensures value { result.now ≡ self.now.covers }
+        ensures reads { (es : List Effect) → IsAfter es self.now → CoversAre es self.now.covers }
+    {
+        &self.tables.routing.covers
     }
 
     /// What the window of a channel was sent and is not told the end of; None exactly where no channel was opened

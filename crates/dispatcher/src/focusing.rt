@@ -56,6 +56,7 @@ fn welcome(routing: &mut Routing, number: u32, place: u64, clock: Moment)
     let round = Round {
         mark: Mark::NoOp,
         motion: None,
+        gift: None,
         watchers: 0,
         target,
         keys: &[],

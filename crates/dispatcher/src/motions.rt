@@ -17,6 +17,7 @@ use dispatch_round::Round;
 use input_types::{DeviceId, Moment, Motion, MotionAction};
 use route_split::{Mark, watchers};
 use std::alloc::AllocError;
+use window_covers::gift_of;
 use window_snapshot::{Window, mask_has};
 
 /// A motion is dispatched.
@@ -39,9 +40,11 @@ pub(crate) fn route_motion(
     let windows = routing.shown.windows();
     let reach = routing.channels.live() & windows.on(routing.displays.of(motion.device));
     let able = routing.channels.able();
+    let mark = routing.touches.mark_of(motion, windows, reach, able);
     let round = Round {
-        mark: routing.touches.mark_of(motion, windows, reach, able),
+        mark,
         motion: Some(motion),
+        gift: gift_of(&mark, motion, windows, reach),
         watchers: watchers(motion, windows, reach, able),
         target: routing.focus.target().unwrap_or(0),
         keys: &[],
@@ -68,6 +71,7 @@ fn route_move(
     let round = Round {
         mark: Mark::NoOp,
         motion: Some(motion),
+        gift: None,
         watchers: 0,
         target: routing.focus.target().unwrap_or(0),
         keys: &[],

@@ -1,20 +1,24 @@
 //! Pumps: the first args that wait are dispatched, or a key that is held is repeated.
-ghost use Rattle.std.specs.Prelude.{◌≡◌, ◌≤◌, ◌+◌, ℕ, suc, List, None, Some, slice_get, if◌then◌else◌};
+ghost use Rattle.std.specs.Prelude.{◌≡◌, ◌≤◌, ◌<◌, ◌+◌, ◌-◌, ◌^◌, ℕ, suc, List, None, Some, Ok, slice_get, if◌then◌else◌};
 ghost use Rattle.std.specs.Prelude.{IfOk, OnOk, OnErr, IsOk, IfSome};
-ghost use Rattle.dispatch_calls.specs.declared.call.Call.TheVariants.{Pump};
+ghost use Rattle.input_types.specs.DeviceRule.{device_of};
+ghost use Rattle.inbound.specs.Down.{PlansAt};
+ghost use Rattle.dispatch_calls.specs.declared.call.Call.TheVariants.{Notify, Pump};
 ghost use Rattle.dispatch_history.specs.Effect.{Effect};
+ghost use Rattle.dispatch_history.specs.PointerOf.{RisesIn};
 ghost use Rattle.dispatch_round.specs.Rounds.{IsTimely};
 ghost use Rattle.dispatch_calls.specs.declared.reply.Reply.TheVariants.{Dispatched, Repeated, Idle};
 ghost use Rattle.dispatcher.specs.Outcomes.{reply_of};
 ghost use Rattle.dispatcher.specs.Memory.{IsCalm};
 ghost use Rattle.dispatcher.specs.Roomy.{HasPumpRoom, KeepsPromise};
-ghost use Rattle.dispatcher.specs.Tables.{TablesStandFor, MayStep, Pumps, GoesOn};
+ghost use Rattle.dispatcher.specs.Tables.{TablesStandFor, MayStep, Pumps, GoesOn, GoesThrough};
 ghost use Rattle.dispatcher.specs.Tables.{SameButRoom, SameAll};
 
 use crate::key_steps::{repeat, route_key, route_reset};
 use crate::motions::route_motion;
 use crate::outcome::Outcome;
 use crate::tables::{Routing, Tables};
+use inbound::Change;
 use input_types::{Args, Moment};
 use std::alloc::AllocError;
 
@@ -35,6 +39,30 @@ pub(crate) fn dispatch_first(tables: &mut Tables, now: Moment) -> Result<(), All
         tables.queueing.dispatch(now);
         tables.queueing.spend_pump();
     }
+    Ok(())
+}
+
+/// Hands in args that need not wait, and dispatches them. They change what is planned for them.
+pub(crate) fn dispatch_at_once(
+    tables: &mut Tables,
+    now: Moment,
+    args: &Args,
+    change: &Change,
+) -> Result<(), AllocError>
+    requires step { MayStep tables.old }
+    requires place { tables.old.queueing.place < 2 ^ 64 - 2 }
+    requires none { slice_get tables.old.queueing.waiting 0 ≡ None }
+    requires planned { PlansAt tables.old.queueing.down args.now (Ok change.now) }
+    requires device { (1 ≤ device_of args.now) × (device_of args.now ≤ 8) }
+    requires rises { RisesIn (Notify now args.now) }
+    ensures ok { OnOk result (GoesThrough now args.now tables.old tables.new) }
+    ensures err { OnErr result (SameAll tables.old tables.new) }
+    ensures promise { KeepsPromise tables.old → KeepsPromise tables.new }
+{
+    let clock = now.later(tables.queueing.clock());
+    let place = tables.queueing.place();
+    dispatch(&mut tables.routing, args, place + 1, clock)?;
+    tables.queueing.pass(now, change);
     Ok(())
 }
 

@@ -5,7 +5,7 @@ ghost use Rattle.inbound.specs.Down.{PlansAt};
 ghost use Rattle.dispatch_calls.specs.declared.call.Call.{Call};
 ghost use Rattle.dispatch_calls.specs.declared.reply.Reply.{Reply};
 ghost use Rattle.inbound.specs.Waiting.{put_behind};
-ghost use Rattle.dispatcher.specs.Queue.{QueueIs, QueueGoes};
+ghost use Rattle.dispatcher.specs.Queue.{QueueIs, QueueGoes, Passes};
 ghost use Rattle.dispatcher.specs.Queueing.{stepped, dispatched, with_args_room, with_pumps};
 
 use inbound::{Change, DevicesDown, Inbound, Inconsistent};
@@ -76,6 +76,16 @@ impl Queueing {
         ensures few { self.now.place < 2 ^ 64 - 1 → IsOk result }
     {
         if self.place == u64::MAX {
+            return Err(AllocError);
+        }
+        Ok(())
+    }
+
+    /// Checks that two more steps can be counted.
+    pub(crate) fn may_step_twice(&self) -> Result<(), AllocError>
+        ensures { OnOk result (self.now.place < 2 ^ 64 - 2) }
+    {
+        if u64::MAX - 1 <= self.place {
             return Err(AllocError);
         }
         Ok(())
@@ -176,6 +186,18 @@ impl Queueing {
         let _args = self.waiting.pop();
         self.clock = now.later(self.clock);
         self.place += 1;
+    }
+
+    /// Two steps more, with which args are taken and dispatched at once. They change what is planned for them, and
+    /// there is room for one pump less.
+    pub(crate) fn pass(&mut self, now: Moment, change: &Change)
+        requires { self.old.place < 2 ^ 64 - 2 }
+        ensures { Passes now change.now self.old self.new }
+    {
+        self.down.apply(change);
+        self.clock = now.later(self.clock);
+        self.place += 2;
+        self.pumps = self.pumps.saturating_sub(1);
     }
 }
 

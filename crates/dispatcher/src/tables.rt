@@ -11,6 +11,7 @@ use input_types::Displays;
 use key_repeat::Repeat;
 use route_split::Touches;
 use std::alloc::{AllocError, Global};
+use window_covers::Covers;
 
 /// What the windows were told of, and all that decides what they are sent next.
 #[derive(Drop)]
@@ -18,6 +19,8 @@ pub(crate) struct Routing {
     pub(crate) displays: Displays,
     pub(crate) shown: Shown,
     pub(crate) touches: Touches,
+    /// What lay over each window where it was given pointers.
+    pub(crate) covers: Covers,
     pub(crate) channels: Channels,
     pub(crate) focus: Focus,
     pub(crate) repeat: Repeat,
@@ -44,6 +47,7 @@ impl Tables {
             displays: *displays,
             shown: Shown::new(alloc),
             touches,
+            covers: Covers::new(),
             channels: Channels::new(alloc),
             focus: Focus::new(),
             repeat: Repeat::new(),

@@ -1,7 +1,7 @@
 -- Worked examples: the calls of small orders, and the lines of what a window was sent.
 use Rattle.std.specs.Prelude.{◌≡◌, ℕ, true, codes, List, [], ◌∷◌, map, Result, Ok, Err, refl, Some}
 use Rattle.std.specs.Fmt.{digits}
-use Rattle.stream_text.specs.Spelling.{labeled, pointer, motion as motion_text, numbered}
+use Rattle.stream_text.specs.Spelling.{flag_words, labeled, pointer, motion as motion_text, numbered}
 use Rattle.input_types.specs.declared.message.Args.TheVariants.{Motion}
 use Rattle.input_types.specs.declared.motion.MotionAction.TheVariants.{Down}
 use Rattle.dispatch_calls.specs.declared.call.Call.{Call}
@@ -75,12 +75,12 @@ effects (Err n) = []
 what_its_owner_received :
     lines_first (effects (given_calls one_window (map line_of (Script 1 ∷ Reader ∷ Pump ∷ Receive 1 ∷ Receive 1 ∷ Finish 1 1 ∷ [])))) 1 1
     ≡ codes "1 1000000 motion 1 DOWN 0@100,200\n"
-unfolding labeled pointer motion_text numbered digits
+unfolding flag_words labeled pointer motion_text numbered digits
 what_its_owner_received = refl
 
 -- a message that is not received has a line as soon as it is sent
 what_it_did_not_receive : lines_first (effects (given_calls one_window (map line_of (Script 1 ∷ Reader ∷ Pump ∷ [])))) 1 1 ≡ codes "1 1000000 motion 1 DOWN 0@100,200\n"
-unfolding labeled pointer motion_text numbered digits
+unfolding flag_words labeled pointer motion_text numbered digits
 what_it_did_not_receive = refl
 
 -- and no line before

@@ -27,3 +27,4 @@ pub mod Sections
 pub mod Removing
 pub mod Counting
 pub mod Formed
+pub mod Twice

@@ -30,6 +30,12 @@ abbrev pub Makes : {A E : Type 0} → Result A E → Call → (old new : Schedul
 Makes result call old new =
     (how : Lines) (plan : Plan) (es : List Effect) → HasWith how plan es old → OnOk result (HasWith how plan (answered plan.displays call es) new)
 
+-- where it is done, the run has these two calls more
+abbrev pub MakesTwo : {A E : Type 0} → Result A E → (first second : Call) → (old new : ScheduleState) → Type 0
+MakesTwo result first second old new =
+    (how : Lines) (plan : Plan) (es : List Effect) → HasWith how plan es old
+    → OnOk result (HasWith how plan (answered plan.displays second (answered plan.displays first es)) new)
+
 -- where it is done, the run has this call more, which is no receive, and so many steps of scripts were made with it
 abbrev pub MakesWith : {A E : Type 0} → Result A E → Call → (next : ℕ) → (old new : ScheduleState) → Type 0
 MakesWith result call next old new =

@@ -73,8 +73,7 @@ impl Schedule {
         ensures more { GoesOn self.old self.new }
         ensures latest { self.new.latest ≡ self.old.latest }
     {
-        self.notify(moment, args)?;
-        self.pump(moment)?;
+        self.notify_and_pump(moment, args)?;
         self.receive_all()
     }
 

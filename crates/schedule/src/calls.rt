@@ -1,7 +1,12 @@
 //! The calls that a run makes most often. A run that explains no causes makes them without building a `Call`.
-ghost use Rattle.std.specs.Prelude.{◌≡◌, ◌-◌};
+ghost use Rattle.std.specs.Prelude.{◌≡◌, ◌-◌, true, false, List, IfOk};
 ghost use Rattle.dispatch_calls.specs.declared.call.Call.{Call as CallView};
-ghost use Rattle.schedule.specs.Making.{CountsOne, GoesOn, Makes, ReleasesNone};
+ghost use Rattle.dispatch_history.specs.Effect.{Effect};
+ghost use Rattle.dispatch_history.specs.Legal.{answered};
+ghost use Rattle.dispatch_history.specs.Plan.{Plan as PlanView};
+ghost use Rattle.schedule.specs.declared.keeping.Lines.{Lines};
+ghost use Rattle.schedule.specs.Making.{CountsOne, GoesOn, Makes, MakesTwo, ReleasesNone};
+ghost use Rattle.schedule.specs.State.{HasWith};
 
 use crate::schedule::Schedule;
 use dispatch_calls::Call;
@@ -49,6 +54,44 @@ impl Schedule {
             }
             Err(error) => Err(error),
         }
+    }
+
+    /// Hands in args and dispatches them. Most args need not wait, and are not queued.
+    pub(crate) fn notify_and_pump(&mut self, now: Moment, args: &Args) -> Result<(), AllocError>
+        ensures after { MakesTwo result (CallView.Notify now args.now) (CallView.Pump now) self.old self.new }
+        ensures gone { ReleasesNone self.old self.new }
+        ensures more { GoesOn self.old self.new }
+        ensures latest { self.new.latest ≡ self.old.latest }
+    {
+        let done = self.dispatch(now, args)?;
+        if done {
+            return Ok(());
+        }
+        self.notify(now, args)?;
+        self.pump(now)
+    }
+
+    /// Hands in args and dispatches them, where they need not wait and no causes are explained. If it returns `false`,
+    /// nothing changed.
+    fn dispatch(&mut self, now: Moment, args: &Args) -> Result<bool, AllocError>
+        ensures done { (how : Lines) (plan : PlanView) (es : List Effect) → HasWith how plan es self.old
+            → IfOk result (λ done. done ≡ true → HasWith how plan
+            (answered plan.displays (CallView.Pump now) (answered plan.displays (CallView.Notify now args.now) es))
+            self.new) }
+        ensures undone { IfOk result (λ done. done ≡ false → self.new ≡ self.old) }
+        ensures gone { ReleasesNone self.old self.new }
+        ensures more { GoesOn self.old self.new }
+        ensures latest { self.new.latest ≡ self.old.latest }
+    {
+        if self.causes.is_some() {
+            return Ok(false);
+        }
+        let done = self.dispatcher.dispatch(now, args)?;
+        if !done {
+            return Ok(false);
+        }
+        self.calls = self.calls.saturating_add(2);
+        Ok(true)
     }
 
     /// Finishes a message of a channel.

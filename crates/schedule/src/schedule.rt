@@ -1,12 +1,11 @@
 //! The run itself.
-ghost use Rattle.std.specs.Prelude.{◌≡◌, ◌≤◌, ◌<◌, ◌+◌, ◌-◌, ℕ, false, List, OnOk, OnErr, replicate, option_map};
+ghost use Rattle.std.specs.Prelude.{◌≡◌, ◌≤◌, ◌<◌, ◌+◌, ◌-◌, ℕ, false, List, OnOk, replicate, option_map};
 ghost use Rattle.dispatch_calls.specs.declared.call.Call.{Call as CallView};
 ghost use Rattle.dispatch_history.specs.Effect.{Effect, past_of};
 ghost use Rattle.dispatch_history.specs.Legal.{answered};
 ghost use Rattle.dispatch_history.specs.Ordered.{extend, is_scripted, scripted, received_all};
 ghost use Rattle.dispatch_history.specs.Plan.{Plan as PlanView};
 ghost use Rattle.dispatcher.specs.Access.{gone, anrs_released};
-ghost use Rattle.dispatcher.specs.Answered.{StepsOn};
 ghost use Rattle.dispatcher.specs.Dispatching.{IsAfter};
 ghost use Rattle.schedule.specs.declared.keeping.Lines.{Lines};
 ghost use Rattle.schedule.specs.declared.keeping.Lines.TheVariants.{Causes};
@@ -25,6 +24,7 @@ use input_types::Moment;
 use std::alloc::{AllocError, Global};
 use std::marker::Model;
 use std::mem;
+use why_lines::take_step;
 use window_snapshot::{mask_first, mask_without};
 
 /// A run of a plan, to which args come one by one.
@@ -211,17 +211,6 @@ impl Schedule {
             rest = mask_without(rest, channel);
         }
         Ok(())
-    }
-}
-
-/// Makes a call without reading its reply. Out of memory changes nothing.
-fn take_step(dispatcher: &mut Dispatcher, call: &Call) -> Result<(), AllocError>
-    ensures ok { OnOk result (StepsOn call.now dispatcher.old dispatcher.new) }
-    ensures err { OnErr result (dispatcher.new ≡ dispatcher.old) }
-{
-    match dispatcher.apply(call) {
-        Ok(_) => Ok(()),
-        Err(error) => Err(error),
     }
 }
 

@@ -1,14 +1,16 @@
 //! Args that are handed in, and pumps that dispatch them.
-ghost use Rattle.std.specs.Prelude.{◌≡◌, ◌<◌, ◌≤◌, ◌+◌, ◌^◌, IfOk, OnErr};
+ghost use Rattle.std.specs.Prelude.{◌≡◌, ◌<◌, ◌≤◌, ◌+◌, ◌^◌, ◌↔◌, true, false, List, IfOk, OnErr};
 ghost use Rattle.dispatch_calls.specs.declared.call.Call.TheVariants.{Notify, Pump};
 ghost use Rattle.dispatch_calls.specs.declared.reply.Reply.TheVariants.{Inconsistent};
+ghost use Rattle.dispatch_history.specs.Effect.{Effect};
 ghost use Rattle.dispatch_history.specs.PointerOf.{RisesIn};
-ghost use Rattle.dispatcher.specs.Answered.{Answers, AnswersCalm, AnswersPumped, AnswersReserved};
+ghost use Rattle.dispatcher.specs.Answered.{Answers, AnswersCalm, AnswersPumped, AnswersReserved, NeedNotWait, StepsTwice};
+ghost use Rattle.dispatcher.specs.Dispatching.{IsAfter};
 ghost use Rattle.dispatcher.specs.Outcomes.{reply_of};
 
 use super::Dispatcher;
 use crate::outcome::Outcome;
-use crate::pumping::{dispatch_first, idle};
+use crate::pumping::{dispatch_at_once, dispatch_first, idle};
 use input_types::{Args, Moment};
 use std::alloc::AllocError;
 
@@ -50,6 +52,31 @@ impl Dispatcher {
         }
         dispatch_first(&mut self.tables, now)?;
         Ok(Outcome::Dispatched)
+    }
+
+    /// Takes args and dispatches them, as `notify` and then `pump` do, where they need not wait: no args wait, and
+    /// these may follow what is down on their device. They are not copied. If it returns `false`, nothing changed. Out
+    /// of memory changes nothing.
+    pub fn dispatch(&mut self, now: Moment, args: &Args) -> Result<bool, AllocError>
+        ensures done { IfOk result (λ done. done ≡ true
+            → StepsTwice (Notify now args.now) (Pump now) self.old self.new) }
+        ensures undone { IfOk result (λ done. done ≡ false → self.new ≡ self.old) }
+        ensures exact { (es : List Effect) → IsAfter es self.old
+            → IfOk result (λ done. (done ≡ true) ↔ NeedNotWait es now args.now) }
+        ensures err { OnErr result (self.new ≡ self.old) }
+    {
+        self.tables.queueing.may_step_twice()?;
+        if self.tables.queueing.first().is_some() {
+            return Ok(false);
+        }
+        rises(now, args);
+        match self.tables.queueing.plan(args) {
+            Ok(change) => {
+                dispatch_at_once(&mut self.tables, now, args, &change)?;
+                Ok(true)
+            }
+            Err(_) => Ok(false),
+        }
     }
 }
 

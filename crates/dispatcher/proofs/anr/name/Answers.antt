@@ -21,7 +21,7 @@ carry_out-requires-clause-outgoing c =
 pub carry_out-requires-clause-ready : goal.carry_out-requires-clause-ready
 carry_out-requires-clause-ready c =
     let round : Round =
-    record { mark = Mute c.args.mask; motion = None; watchers = 0; target = c.unwrap_or.result; keys = c.args.keys; lost = 0; gained = 0 } in
+    record { mark = Mute c.args.mask; motion = None; gift = None; watchers = 0; target = c.unwrap_or.result; keys = c.args.keys; lost = 0; gained = 0 } in
     subst (IsReady c.args.routing.now.touches round) (sym c.in_ok-name.ensures.ok)
     (λ w lives concerned.
     let has = c.in_ok-outgoing.ensures.ready w lives concerned in
@@ -38,13 +38,14 @@ pub returns-clause-ok : goal.returns-clause-ok
 returns-clause-ok c =
     let old = c.args.routing.now in
     let round : Round =
-    record { mark = Mute c.args.mask; motion = None; watchers = 0; target = c.unwrap_or.result; keys = c.args.keys; lost = 0; gained = 0 } in
+    record { mark = Mute c.args.mask; motion = None; gift = None; watchers = 0; target = c.unwrap_or.result; keys = c.args.keys; lost = 0; gained = 0 } in
     record {
       round = round;
       is =
           record {
             mark_is = refl;
             motion_is = refl;
+            gift_is = refl;
             target_is = c.unwrap_or.ensures ∙ ap (λ o. unwrap_or o 0) c.target.ensures;
             keys_are = refl;
             lost_is = refl;

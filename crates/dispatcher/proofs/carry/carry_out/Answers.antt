@@ -8,7 +8,8 @@ returns-clause-carries c =
     let old = c.args.routing.now in
     record {
       touches = c.send_all.ensures.changes;
-      channels = subst (λ (os : List Pixel). SendsRound c.args.round.now old.touches os c.args.clock old.channels c.send_all.new.channels) c.origins.ensures
+      covers = c.give.ensures;
+      channels = subst (λ (os : List Pixel). SendsRound c.args.round.now old.touches c.give.new.covers os c.args.clock old.channels c.send_all.new.channels) c.origins.ensures
           (record { changed = c.args.outgoing; sends = c.send_all.ensures.outgoing });
       gone_are = record { of_channels = c.send_all.ensures.gone; of_anrs = ap (λ n. n.gone) c.send_all.ensures.anrs };
       repeat_is = c.remember.ensures;

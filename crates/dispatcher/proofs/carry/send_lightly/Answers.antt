@@ -19,7 +19,8 @@ returns-clause-ok c =
       carries =
           record {
             touches = c.send_light.ensures.changes;
-            channels = subst (λ (os : List Pixel). SendsRound c.args.round.now old.touches os c.args.clock c.make_light_room.new.channels c.send_light.new.channels) c.origins.ensures
+            covers = c.give.ensures;
+            channels = subst (λ (os : List Pixel). SendsRound c.args.round.now old.touches c.give.new.covers os c.args.clock c.make_light_room.new.channels c.send_light.new.channels) c.origins.ensures
                 (record { changed = c.in_ok-outgoing.outgoing; sends = c.send_light.ensures.outgoing });
             gone_are = record { of_channels = c.send_light.ensures.gone; of_anrs = ap (λ n. n.gone) c.send_light.ensures.anrs };
             repeat_is = c.remember.ensures;

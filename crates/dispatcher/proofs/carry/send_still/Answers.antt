@@ -32,6 +32,7 @@ returns-clause-ok c =
           record {
             mark_is = refl;
             motion_is = refl;
+            gift_is = refl;
             target_is = c.unwrap_or.ensures ∙ ap (λ o. unwrap_or o 0) c.target.ensures;
             keys_are = refl;
             lost_is = refl;

@@ -9,6 +9,7 @@ carry_out-requires-clause-ready c =
     (record {
       mark_is = refl;
       motion_is = refl;
+      gift_is = refl;
       target_is = refl;
       keys_are = refl;
       lost_is = refl;
@@ -23,6 +24,7 @@ returns c =
     (record {
       mark_is = refl;
       motion_is = refl;
+      gift_is = refl;
       target_is = c.unwrap_or-target.ensures ∙ ap (λ o. unwrap_or o 0) c.target.ensures;
       keys_are = refl;
       lost_is = refl;

@@ -9,12 +9,13 @@ returns-clause-ok c =
     let old = c.args.routing.now in
     on_ok _ _ c.send.result c.send.ensures.ok
     (λ from.
-    motion_sent old c.send.new.routing c.args.place c.args.clock c.args.motion.now _ c.mark_of.result c.live.result c.on.result c.able-able.result
+    motion_sent old c.send.new.routing c.args.place c.args.clock c.args.motion.now _ c.mark_of-mark.result c.live.result c.on.result c.able-able.result
     c.windows-windows.result.now
     c.of.result
     (record {
       mark_is = refl;
       motion_is = refl;
+      gift_is = tt;
       target_is = c.unwrap_or.ensures ∙ ap (λ o. unwrap_or o 0) c.target.ensures;
       keys_are = refl;
       lost_is = refl;
@@ -26,8 +27,10 @@ returns-clause-ok c =
     c.able-able.ensures.value
     c.of.ensures
     c.on.ensures
-    c.mark_of.ensures.mark
-    c.watchers.ensures)
+    c.mark_of-mark.ensures.mark
+    c.watchers.ensures
+    c.mark_of-mark.ensures.whole
+    c.gift_of.ensures)
 
 pub returns-clause-roomy : goal.returns-clause-roomy
 returns-clause-roomy c n roomy =

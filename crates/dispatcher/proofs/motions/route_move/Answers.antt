@@ -22,11 +22,13 @@ returns-clause-ok c =
     (record {
       mark_is = refl;
       motion_is = refl;
+      gift_is = tt;
       target_is = c.unwrap_or.ensures ∙ ap (λ o. unwrap_or o 0) c.target.ensures;
       keys_are = refl;
       lost_is = refl;
       gained_is = refl;
     })
+    refl
     refl
     from
     c.requires.moves

@@ -20,6 +20,7 @@ returns c =
     c.change-not_sent.ensures.changes
     refl
     refl
+    refl
     c.remove.ensures
     (refocuses_by old.shown.windows _ _ _ old.focus c.windows-change.new.self _ c.windows-change.ensures.state c.focusable-windows.ensures c.windows.ensures
     (c.live-2.ensures.value ∙ ap (λ t. t.live) c.remove.ensures))

@@ -10,7 +10,7 @@ returns c =
     let r = c.self.inside.tables.routing in
     c.counts.ensures
     ∙ (reads_channels r.displays es _ r.channels
-    (stands_raw r.displays es c.self.inside.tables.queueing r.shown r.touches r.channels r.focus r.repeat
+    (stands_raw r.displays es c.self.inside.tables.queueing r.shown r.touches r.covers r.channels r.focus r.repeat
     (subst (IsAfter es) (sym c.self.view_is) s))
     refl).counts_are
     c.args.channel

@@ -11,6 +11,6 @@ returns c =
     c.due.ensures
     ∙ ap (λ due. due c.args.channel)
     ((reads_channels r.displays es _ r.channels
-    (stands_raw r.displays es c.self.inside.tables.queueing r.shown r.touches r.channels r.focus r.repeat
+    (stands_raw r.displays es c.self.inside.tables.queueing r.shown r.touches r.covers r.channels r.focus r.repeat
     (subst (IsAfter es) (sym c.self.view_is) s))
     refl).dues_are)

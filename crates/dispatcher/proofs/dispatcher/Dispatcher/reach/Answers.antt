@@ -18,7 +18,7 @@ returns c =
     let shown = c.on-shown.result in
     let mask = bit_and live shown in
     let stands =
-    stands_raw r.displays es c.self.inside.tables.queueing r.shown r.touches r.channels r.focus r.repeat
+    stands_raw r.displays es c.self.inside.tables.queueing r.shown r.touches r.covers r.channels r.focus r.repeat
     (subst (IsAfter es) (sym c.self.view_is) s) in
     let has : (j : ℕ) → mask_has mask j ≡ (mask_has r.channels.live j && is_shown_on r.shown.windows (device_display r.displays d) j) =
     λ j.

@@ -12,7 +12,7 @@ returns-clause-live c =
     let r = c.self.inside.tables.routing in
     let reads =
     reads_channels r.displays es _ r.channels
-    (stands_raw r.displays es c.self.inside.tables.queueing r.shown r.touches r.channels r.focus r.repeat
+    (stands_raw r.displays es c.self.inside.tables.queueing r.shown r.touches r.covers r.channels r.focus r.repeat
     (subst (IsAfter es) (sym c.self.view_is) s))
     refl
     in
@@ -23,7 +23,7 @@ returns-clause-none c =
     λ es s.
     let r = c.self.inside.tables.routing in
     let stands =
-    stands_raw r.displays es c.self.inside.tables.queueing r.shown r.touches r.channels r.focus r.repeat
+    stands_raw r.displays es c.self.inside.tables.queueing r.shown r.touches r.covers r.channels r.focus r.repeat
     (subst (IsAfter es) (sym c.self.view_is) s)
     in
     let reads = reads_channels r.displays es _ r.channels stands refl in

@@ -17,10 +17,11 @@ returns-clause-start c =
       windows_are = ap (λ s. s.windows) c.new-3.ensures;
       origins_are = λ w. ap (λ s. origin_at s.origins w) c.new-3.ensures ∙ same_default 64 (w - 1) corner;
       touches_are = c.in_ok-touches.ensures;
-      count_is = ap opened c.new-4.ensures;
-      live_is = ap (λ t. t.live) c.new-4.ensures;
-      able_is = ap (λ t. t.able) c.new-4.ensures;
-      noted_is = ap (λ t. t.anrs) c.new-4.ensures;
-      focus_is = c.new-5.ensures;
-      repeat_is = c.new-6.ensures;
+      covers_are = c.new-4.ensures;
+      count_is = ap opened c.new-5.ensures;
+      live_is = ap (λ t. t.live) c.new-5.ensures;
+      able_is = ap (λ t. t.able) c.new-5.ensures;
+      noted_is = ap (λ t. t.anrs) c.new-5.ensures;
+      focus_is = c.new-6.ensures;
+      repeat_is = c.new-7.ensures;
     })

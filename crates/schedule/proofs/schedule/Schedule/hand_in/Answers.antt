@@ -13,14 +13,15 @@ returns-clause-after c = λ how plan es r.
     let a = c.args.args.now in
     let one = answered plan.displays (Notify t a) es in
     let two = answered plan.displays (Pump t) one in
-    let has = c.in_ok-notify.ensures.after how plan es r.has in
-    let both = c.in_ok-pump.ensures.after how plan one has in
-    let first = first_call plan.displays es (Notify t a) (lawful_of how plan es _ r.has) r.caught refl in
     let l = lawful_of how plan es _ r.has in
+    let first = first_call plan.displays es (Notify t a) l r.caught refl in
     let quiet =
-    released_stay es one c.args.self.now.dispatcher c.notify.new.self.dispatcher (λ d. silent_stream plan.displays (Notify t a) es d l refl)
-    (λ d low. c.notify.ensures.gone d low) r.all_released in
-    let left = left_by plan.displays (Pump t) one c.notify.new.self.dispatcher c.pump.new.self.dispatcher first.lawful refl (λ d low. c.pump.ensures.gone d low) quiet in
+    released_stay es one c.args.self.now.dispatcher c.args.self.now.dispatcher (λ d. silent_stream plan.displays (Notify t a) es d l refl) (λ d low. refl)
+    r.all_released in
+    let left =
+    left_by plan.displays (Pump t) one c.args.self.now.dispatcher c.notify_and_pump.new.self.dispatcher first.lawful refl (λ d low. c.notify_and_pump.ensures.gone d low)
+    quiet in
+    let both = c.in_ok-notify_and_pump.ensures.after how plan es r.has in
     on_ok_both c.receive_all.result _ _ _ (c.receive_all.ensures.after how plan two both) (c.receive_all.ensures.released how plan two both left)
     (λ all released.
     ready_again how plan es two c.receive_all.new.self (second_call plan.displays es one (Pump t) first refl (clock_twice t es plan.displays a)) r.opened_is all released)
