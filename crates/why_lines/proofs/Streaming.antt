@@ -17,7 +17,8 @@ use Rattle.dispatch_calls.specs.declared.reply.Reply.{Reply}
 use Rattle.dispatch_calls.specs.declared.reply.Reply.TheVariants.{Dispatched, Done, Named}
 use Rattle.routing_rules.specs.Fits.{is_motion_of}
 use Rattle.routing_rules.specs.Given.{mark}
-use Rattle.routing_rules.specs.Marks.{Mark}
+use Rattle.routing_rules.specs.Cover.{Cover, under_all}
+use Rattle.routing_rules.specs.Marks.{Mark, covered}
 use Rattle.routing_rules.specs.Scene.{Scene, Step, Moves}
 use Rattle.routing_rules.specs.Outgoing.{devices, is_down, outgoing, sent_with}
 use Rattle.dispatch_history.specs.Delivery.{able}
@@ -28,15 +29,15 @@ use Rattle.dispatch_history.specs.KeySent.{keys_sent, last_key, repeat_by}
 use Rattle.dispatch_history.specs.Keys.{keys, loses_all}
 use Rattle.dispatch_history.specs.Queue.{args_of, inbound}
 use Rattle.dispatch_history.specs.Said.{keys_said, motion_from, motions_said, said}
-use Rattle.dispatch_history.specs.Step.{scene, step_of}
+use Rattle.dispatch_history.specs.Step.{scene, step_of, marks}
 use Rattle.why_text.specs.Laws.{sends_down}
 use Rattle.why_text.proofs.GivenLaws.{given_law, others_law}
 use Rattle.why_lines.specs.Laws.{DownLaw, NoDownLaw, is_motion, says_down}
 use Rattle.why_lines.proofs.Coming.{may_come}
 
-motions_say : (o : Pixel) (ms : List Motion) → list_any says_down (map (λ m. MotionBody (motion_from o m)) ms) ≡ sends_down ms
-motions_say o [] = refl
-motions_say o (m ∷ ms) = ap (λ b. is_down m.action || b) (motions_say o ms)
+motions_say : (cover : ℕ → Cover) (o : Pixel) (ms : List Motion) → list_any says_down (map (λ m. MotionBody (motion_from o m)) (under_all cover ms)) ≡ sends_down ms
+motions_say cover o [] = refl
+motions_say cover o (m ∷ ms) = ap (λ b. is_down m.action || b) (motions_say cover o ms)
 
 no_key : (ks : List KeyMsg) → list_any says_down (map Key ks) ≡ false
 no_key [] = refl
@@ -62,13 +63,14 @@ said_down : (after : History) (args : Option Args) (s : Scene) (e : Step) (k : M
     → list_any says_down (said after args s e k es w) ≡ sends_down (flat_map (sent_with s e k w) devices)
 said_down after args s e k es w lives =
     let o = origin (past_of es) w in
+    let cover = covered (k ∷ marks es) w in
     let pressed = keys_said after args es w in
     let focus = focus_sent (has_focus (past_of es) w) (has_focus after w) in
-    ap (λ b. list_any says_down (cond b (motions_said s e k o w ++ pressed ++ focus) [])) lives
-    ∙ list_any-append says_down (motions_said s e k o w ++ pressed) focus
+    ap (λ b. list_any says_down (cond b (motions_said s e k cover o w ++ pressed ++ focus) [])) lives
+    ∙ list_any-append says_down (motions_said s e k cover o w ++ pressed) focus
     ∙ ap₂ (λ a b. a || b)
-    (list_any-append says_down (motions_said s e k o w) pressed
-    ∙ ap₂ (λ a b. a || b) (motions_say o (flat_map (sent_with s e k w) devices)) (keys_say after args es w))
+    (list_any-append says_down (motions_said s e k cover o w) pressed
+    ∙ ap₂ (λ a b. a || b) (motions_say cover o (flat_map (sent_with s e k w) devices)) (keys_say after args es w))
     (focus_says (has_focus (past_of es) w) (has_focus after w))
     ∙ or_false (sends_down (flat_map (sent_with s e k w) devices))
 
@@ -157,7 +159,7 @@ no_down_law ds call answer es w none = by_life (live after w) refl
         ap
         (λ b. list_any says_down
         (cond b
-        (motions_said s e (mark s e) (origin (past_of es) w) w ++ keys_said after args es w
+        (motions_said s e (mark s e) (covered (mark s e ∷ marks es) w) (origin (past_of es) w) w ++ keys_said after args es w
         ++ focus_sent (has_focus (past_of es) w) (has_focus after w))
         []))
         dead

@@ -3,6 +3,7 @@ use Rattle.std.specs.Prelude.{◌≡◌, ℕ, Bool, true, List, Some}
 use Rattle.input_types.specs.declared.motion.Motion.{Motion}
 use Rattle.input_types.specs.declared.pointer.Pointer.{Pointer}
 use Rattle.input_types.specs.Pointers.{IsRising}
+use Rattle.window_snapshot.specs.Blocking.{blockers}
 use Rattle.window_snapshot.specs.Mask.{is_channel, mask_has}
 use Rattle.routing_rules.specs.Scene.{Scene, Moves}
 use Rattle.routing_rules.specs.Given.{changed}
@@ -10,7 +11,6 @@ use Rattle.routing_rules.specs.Outgoing.{is_down}
 use Rattle.routing_rules.specs.Fits.{Fits, down_after}
 use Rattle.route_split.specs.Tables.{Stands}
 use Rattle.route_split.specs.Seen.{Sees}
-use Rattle.why_text.specs.Blocking.{blockers}
 use Rattle.why_text.specs.Down.{Down}
 use Rattle.why_lines.specs.declared.blocking.Blocked.{Blocked}
 use Rattle.why_lines.specs.declared.lines.downs.Causes.{Causes}
@@ -18,7 +18,7 @@ use Rattle.why_lines.specs.declared.sight.Sight.{Sight}
 
 -- the windows that block a window
 abbrev pub blocked_by : Blocked → ℕ → ℕ → Bool
-blocked_by k = blockers k.windows.now (mask_has k.reach) k.at
+blocked_by k = blockers k.windows.now (mask_has k.reach) k.at.x k.at.y
 
 -- the windows of each set are those of its mask
 abbrev pub down_with : Causes → Down

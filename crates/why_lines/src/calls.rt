@@ -15,7 +15,7 @@ use dispatcher::Dispatcher;
 use std::alloc::AllocError;
 
 /// Makes a call without reading its reply. Out of memory changes nothing.
-pub(crate) fn take_step(dispatcher: &mut Dispatcher, call: &Call) -> Result<(), AllocError>
+pub fn take_step(dispatcher: &mut Dispatcher, call: &Call) -> Result<(), AllocError>
     ensures ok { OnOk result (StepsOn call.now dispatcher.old dispatcher.new) }
     ensures err { OnErr result (dispatcher.new ≡ dispatcher.old) }
 {

@@ -12,7 +12,7 @@
 //! finish tells, and which changes of the focus a step tells, is known from what was asked before it and after it.
 //!
 //! - [`apply`]: any call of a dispatcher is made and told at once. What is put behind the text is `step_text` of the
-//!   step.
+//!   step. [`take_step`] makes a call and adds nothing.
 //! - [`pump`], [`tick`], [`finish`], [`pilfer`], [`windows`], [`focus_on`], [`open`], [`remove`]: the same, each of
 //!   one call.
 //! - `lines`: a function for each kind of line. `causes`: why a pointer that goes down went where it went, by what the
@@ -43,7 +43,7 @@ mod snapshots;
 mod steps;
 mod ticks;
 
-pub use calls::apply;
+pub use calls::{apply, take_step};
 pub use focuses::{Focuses, add_changes, all_focused};
 pub use owners::{add_finish, add_pilfer};
 pub use pumps::add_pump;

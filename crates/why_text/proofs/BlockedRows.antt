@@ -5,7 +5,6 @@ use Rattle.std.specs.Fmt.{digits}
 use Rattle.input_types.specs.declared.motion.MotionAction.TheVariants.{Down}
 use Rattle.window_snapshot.specs.declared.occlusion.Occlusion.TheVariants.{Allow, Block, Opacity}
 use Rattle.window_snapshot.specs.declared.window.Window.{Window}
-use Rattle.dispatch_calls.specs.declared.call.Call.{Call}
 use Rattle.dispatch_calls.specs.declared.call.Call.TheVariants.{Open, Windows}
 use Rattle.routing_rules.proofs.Worked.{owned}
 use Rattle.dispatch_history.specs.Legal.{run}

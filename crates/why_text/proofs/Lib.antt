@@ -1,5 +1,6 @@
 pub mod RowLaws
 pub mod PartLaws
+pub mod BlockersLaws
 pub mod GivenLaws
 pub mod OutsideLaws
 pub mod NoOpLaws

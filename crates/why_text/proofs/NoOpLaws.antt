@@ -1,5 +1,5 @@
 -- Steps that send nothing, or no focus change.
-use Rattle.std.proofs.Common.{◌≡◌, ℕ, Bool, true, false, List, [], ◌∷◌, ◌++◌, Option, Some, None, refl, ap, ap₂, ◌∙◌}
+use Rattle.std.proofs.Common.{◌≡◌, ℕ, true, false, List, [], ◌∷◌, ◌++◌, Option, Some, None, refl, ap, ap₂, ◌∙◌}
 use Rattle.std.specs.Prelude.{codes, flat_map}
 use Rattle.std.specs.Fmt.{decimal}
 use Rattle.std.proofs.lemmas.Bool.{eq-eqb, both_ways}
@@ -12,7 +12,7 @@ use Rattle.dispatch_history.specs.History.{History, clock}
 use Rattle.dispatch_history.specs.Effect.{Effect, past_of}
 use Rattle.dispatch_history.specs.Focus.{focus, key_target}
 use Rattle.why_text.specs.Lines.{call_words}
-use Rattle.why_text.specs.Text.{change_words, focus_words, line, same_channel, step_text, step_words}
+use Rattle.why_text.specs.Text.{change_words, focus_words, line, same_channel, step_words}
 use Rattle.why_text.specs.Laws.{FocusLaw, SilentLaw, is_silent, may_move_focus}
 
 same : (o : Option ℕ) → same_channel o o ≡ true

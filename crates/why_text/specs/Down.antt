@@ -7,11 +7,11 @@ use Rattle.input_types.specs.declared.motion.MotionAction.TheVariants.{Outside}
 use Rattle.input_types.specs.declared.pointer.Pointer.{Pointer}
 use Rattle.window_snapshot.specs.Hits.{touched, is_spy_at}
 use Rattle.window_snapshot.specs.Occlusion.{is_blocked_at}
+use Rattle.window_snapshot.specs.Blocking.{blockers}
 use Rattle.routing_rules.specs.declared.choice.Choice.{Choice}
 use Rattle.routing_rules.specs.Scene.{Scene, Moves}
 use Rattle.routing_rules.specs.Choice.{choice_at, is_candidate, is_target, takers}
 use Rattle.routing_rules.specs.Outgoing.{outgoing}
-use Rattle.why_text.specs.Blocking.{blockers}
 
 -- The causes of a down: the window under the position, the choice with its row, the spies at the position, the
 -- candidates that are pilfering the device, the windows that get the pointer, the targets that are not able to, the
@@ -53,5 +53,5 @@ down_of s m p =
       mute = λ w. targets s m p w && not (s.able w);
       outside = λ w. list_any (λ n. is_outside n.action) (outgoing s (Moves m) w d);
       blocked = λ w. targets s m p w && (s.able w && is_blocked_at s.windows (s.reach d) p.at.x p.at.y w);
-      blockers = blockers s.windows (s.reach d) p.at;
+      blockers = blockers s.windows (s.reach d) p.at.x p.at.y;
     }

@@ -1,10 +1,14 @@
 -- Proved facts about the causes of a run. Each law is the clause of a function of its own.
-use Rattle.std.specs.Prelude.{ℕ, Bool, true, false, not, ◌==◌, ◌&&◌, ◌||◌, ◌≡◌, if◌then◌else◌, List, [], ◌∷◌, is_some, Option, Some, None}
+use Rattle.std.specs.Prelude.{ℕ, ℤ, ◌↔◌, Bool, true, false, not, ◌==◌, ◌&&◌, ◌||◌, ◌≡◌, if◌then◌else◌, List, [], ◌∷◌, is_some, Option, Some, None}
 use Rattle.std.specs.List.{list_any}
 use Rattle.input_types.specs.declared.axis.Pixel.{Pixel}
 use Rattle.input_types.specs.declared.motion.Motion.{Motion}
 use Rattle.input_types.specs.declared.pointer.Pointer.{Pointer}
 use Rattle.input_types.specs.Pointers.{IsRising}
+use Rattle.window_snapshot.specs.declared.window.Window.{Window}
+use Rattle.window_snapshot.specs.Blocking.{blockers}
+use Rattle.window_snapshot.specs.Named.{window_of}
+use Rattle.window_snapshot.specs.Occlusion.{is_blocked}
 use Rattle.window_snapshot.specs.Window.{prevents_splitting}
 use Rattle.window_snapshot.specs.Hits.{touched}
 use Rattle.dispatch_calls.specs.declared.call.Call.{Call}
@@ -58,6 +62,12 @@ abbrev pub PartsLaw : Type 0
 PartsLaw =
     (s : Scene) (m : Motion) (p : Pointer) (w : ℕ)
     → Parts (targets s m p w) ((down_of s m p).given w) ((down_of s m p).mute w) ((down_of s m p).blocked w)
+
+-- A window is blocked at a point exactly if some window blocks it there.
+abbrev pub BlockersLaw : Type 0
+BlockersLaw =
+    (windows : List Window) (live : ℕ → Bool) (x y : ℤ) (w : ℕ) (v : Window) → window_of windows w ≡ Some v
+    → (is_blocked windows live x y v ≡ true) ↔ ((c : ℕ) × (blockers windows live x y w c ≡ true))
 
 -- the motions contain a pointer's down
 abbrev pub sends_down : List Motion → Bool

@@ -1,5 +1,4 @@
 pub mod Words
-pub mod Blocking
 pub mod Down
 pub mod Lost
 pub mod Lines

@@ -1,5 +1,5 @@
 //! Proved facts about the causes of a run. Each function has the laws as its clauses, and does nothing.
-ghost use Rattle.why_text.specs.Laws.{FocusLaw, GivenLaw, OthersLaw, OutsideLaw, PartsLaw, RowLaw, SilentLaw};
+ghost use Rattle.why_text.specs.Laws.{BlockersLaw, FocusLaw, GivenLaw, OthersLaw, OutsideLaw, PartsLaw, RowLaw, SilentLaw};
 
 /// The printed row of a choice says what holds before the step.
 pub fn choosing()
@@ -9,6 +9,11 @@ pub fn choosing()
 /// The targets of a pointer are divided into the windows that are given it, the mute ones and the blocked ones.
 pub fn parting()
     ensures { PartsLaw }
+{}
+
+/// A window is blocked exactly if some window blocks it.
+pub fn blocking()
+    ensures { BlockersLaw }
 {}
 
 /// The windows whose streams contain a pointer's down are those that are given it, or to which it slips.

@@ -1,3 +1,4 @@
+pub mod Blocking
 pub mod FlagTable
 pub mod Hits
 pub mod Mask

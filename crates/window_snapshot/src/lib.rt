@@ -10,6 +10,7 @@
 //! 64. A channel number outside of them is in no mask, so it is never live.
 #![tactic(auto)]
 
+mod blockers;
 mod flags;
 mod hits;
 mod mask;

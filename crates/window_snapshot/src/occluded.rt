@@ -19,9 +19,10 @@ const LIGHT: u32 = 1_000_000;
 const CLEAR: u32 = 200_000;
 
 impl Snapshot {
-    /// Of the windows of the mask `among`, those that are blocked at a point of the display: a touch there comes through
-    /// a window of another owner, with a channel in the mask `live`, that may not be touched through, or through windows
-    /// of one other owner whose opacity decides and which together hide more than 80 per cent. Frames decide, not regions.
+    /// Of the windows of the mask `among`, those that are blocked at a point of the display: a touch there comes
+    /// through a window of another owner, with a channel in the mask `live`, that may not be touched through, or
+    /// through windows of one other owner whose opacity decides and which together hide more than 80 per cent. Frames
+    /// decide, not regions.
     pub fn blocked(&self, x: i32, y: i32, live: u64, among: u64) -> u64
         ensures { (c : ℕ) → mask_has result c ≡ (mask_has among c && is_blocked_at self.now (mask_has live) x y c) }
     {
@@ -58,8 +59,8 @@ fn blocked_mask(windows: &[Window], x: i32, y: i32, live: u64, among: u64) -> u6
 
 /// The mask of those of these windows that are in a mask and obscured.
 fn obscured_mask(windows: &[Window], x: i32, y: i32, live: u64, among: u64) -> u64
-    ensures { result
-        ≡ mask_of (filter (λ v. mask_has among v.channel && is_obscured windows.now (mask_has live) x y v) windows.now) }
+    ensures { result ≡ mask_of (filter
+        (λ v. mask_has among v.channel && is_obscured windows.now (mask_has live) x y v) windows.now) }
 {
     windows
         .iter()
@@ -115,7 +116,7 @@ fn is_overlapped(windows: &[Window], live: u64, window: &Window) -> bool
 }
 
 /// The windows in front of that of a channel.
-fn in_front_of(windows: &[Window], channel: u32) -> &[Window]
+pub(crate) fn in_front_of(windows: &[Window], channel: u32) -> &[Window]
     ensures { result.now ≡ in_front_of windows.now channel }
 {
     match place_in(windows, channel) {
@@ -125,7 +126,14 @@ fn in_front_of(windows: &[Window], channel: u32) -> &[Window]
 }
 
 /// Whether one of the windows in front of a window blocks it.
-fn blocks(front: &[Window], x: i32, y: i32, live: u64, window: &Window, other: &Window) -> bool
+pub(crate) fn blocks(
+    front: &[Window],
+    x: i32,
+    y: i32,
+    live: u64,
+    window: &Window,
+    other: &Window,
+) -> bool
     ensures { result ≡ blocks (mask_has live) front.now window.now x y other.now }
 {
     obscures(x, y, live, window, other)

@@ -197,7 +197,7 @@ pub(crate) fn place_in(windows: &[Window], channel: u32) -> Option<usize>
 }
 
 /// The channel's window.
-fn window_in(windows: &[Window], channel: u32) -> Option<&Window>
+pub(crate) fn window_in(windows: &[Window], channel: u32) -> Option<&Window>
     ensures { option_copied result ≡ window_of windows.now channel }
 {
     windows.iter().find(|window| window.channel == channel)

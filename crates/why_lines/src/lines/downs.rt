@@ -15,9 +15,9 @@ use std::alloc::AllocError;
 use text_lines::add_word;
 use window_snapshot::{mask_first, mask_without};
 
-/// The causes of a down: the window under the place, the choice with its row, and as masks the spies at the place, the
-/// candidates that are pilfering the device, the windows that get the pointer, the targets that are not able to, the
-/// windows that are told of a touch outside of them, and the targets that are able to get it but blocked.
+/// The causes of a down: the window under the position, and the choice with its row. The masks have the spies at the
+/// position, the candidates that are pilfering the device, the windows that get the pointer, the targets that cannot
+/// get it, the windows that are sent a touch outside, and the targets that could get it but are blocked.
 #[derive(Clone, Copy)]
 pub struct Causes<'a> {
     pub touched: Option<u32>,

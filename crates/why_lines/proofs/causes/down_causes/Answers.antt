@@ -1,10 +1,10 @@
 use Rattle.std.proofs.Common.{◌≡◌, ℕ, true, ◌&&◌, not, bit_and, sym, ap, ap₂, ◌∙◌}
 use Rattle.window_snapshot.specs.Mask.{is_channel, mask_has}
+use Rattle.window_snapshot.specs.Blocking.{blockers}
 use Rattle.window_snapshot.specs.Hits.{is_spy_at, touched}
 use Rattle.window_snapshot.specs.Occlusion.{is_blocked_at}
 use Rattle.routing_rules.specs.Choice.{is_candidate}
 use Rattle.routing_rules.specs.Watching.{is_watching}
-use Rattle.why_text.specs.Blocking.{blockers}
 use Rattle.why_text.specs.Down.{down_of, targets}
 use Rattle.why_lines.proofs.Masks.{able_targets, and_turned, blocked_targets, given_targets, same_candidates, watching_rest}
 use Rattle.why_lines.proofs.causes.down_causes.Goals as goal
@@ -47,5 +47,5 @@ returns c s seen k =
           watching_rest s m p _ c.watchers.result _ w k (c.mask_less-2.ensures.channels w) (given_are w number)
           (c.watchers.ensures s e w ∙ ap (λ o. is_watching s m o w) k.changed_is);
       blocked_are = λ w number. blocked_targets s m p c.blocked_at-blocked.result able w (able_are w number) (blocked_are w);
-      blockers_are = ap₂ (λ ws r. blockers ws r p.at) (sym e.windows_are) (sym e.reach_is);
+      blockers_are = ap₂ (λ ws r. blockers ws r p.at.x p.at.y) (sym e.windows_are) (sym e.reach_is);
     }

@@ -1,0 +1,28 @@
+-- By which windows of other owners a window is blocked.
+use Rattle.std.specs.Prelude.{ℕ, ℤ, Bool, false, if◌then◌else◌, List, filter, Option, Some, None}
+use Rattle.std.specs.List.{list_any}
+use Rattle.window_snapshot.specs.declared.window.Window.{Window}
+use Rattle.window_snapshot.specs.Named.{is_named, window_of}
+use Rattle.window_snapshot.specs.Occlusion.{blocks, in_front_of}
+use Rattle.window_snapshot.specs.Opaque.{is_blocking}
+
+-- no touch may go through the window
+abbrev pub is_wall : Window → Bool
+is_wall v = is_blocking v.occlusion
+
+-- of windows that block another one, those that no touch may go through; if there are none, all of them, whose opacity decides
+abbrev pub decisive : List Window → List Window
+decisive vs = if list_any is_wall vs then filter is_wall vs else vs
+
+-- the windows, of those in front of w, that block it at the point
+abbrev pub blocking : (ℕ → Bool) → (front : List Window) → Window → ℤ → ℤ → List Window
+blocking live front w x y = filter (blocks live front w x y) front
+
+-- the channels of the decisive ones, if there is such a window
+abbrev pub blockers_of : (ℕ → Bool) → (front : List Window) → ℤ → ℤ → Option Window → ℕ → Bool
+blockers_of live front x y None c = false
+blockers_of live front x y (Some w) c = is_named (decisive (blocking live front w x y)) c
+
+-- the channels of those that block the window of a channel at the point
+abbrev pub blockers : List Window → (ℕ → Bool) → ℤ → ℤ → ℕ → ℕ → Bool
+blockers windows live x y w = blockers_of live (in_front_of windows w) x y (window_of windows w)
