@@ -172,3 +172,10 @@ pub closed_at : (ds : List ℕ) (es : List Effect) (k : Client) (old new : LiveS
     → Closes k old new × (new.clock ≡ m) × Settles ds (next_left m k.channel) (forgotten ds m k.channel (hidden ds m k.channel es)) new
 closed_at ds es k old new n m e closes clock settles =
     (closes, clock, subst (λ t. Settles ds (next_left t k.channel) (forgotten ds t k.channel (hidden ds t k.channel es)) new) e settles)
+
+-- what fits is not refused
+pub not_refused : (ds : List ℕ) (now : ℕ) (es : List Effect) (all args : List Args) (r : Result (Unit {0}) ArgsRefused) (new : LiveState)
+    → all ≡ args → all_taken ds now es args ≡ true → r ≡ Err Inconsistent → Delivers ds now es all r new → ⊥
+not_refused ds now es all args r new e fits refused d =
+    let no : all_taken ds now es all ≡ false = (subst (λ x. Delivers ds now es all x new) refused d).0 in
+    true≢false (sym fits ∙ ap (all_taken ds now es) (sym e) ∙ no)

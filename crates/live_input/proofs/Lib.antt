@@ -23,3 +23,4 @@ pub mod Reported
 pub mod Taken
 pub mod Settled
 pub mod Able
+pub mod Fed

@@ -12,7 +12,8 @@ use Rattle.input_types.specs.declared.motion.MotionAction.TheVariants.{Outside}
 use Rattle.input_types.specs.declared.pointer.Pointer.{Pointer}
 use Rattle.key_repeat.specs.Due.{Sent, due_of, repeated}
 use Rattle.window_snapshot.specs.Named.{is_named}
-use Rattle.routing_rules.specs.Marks.{Mark}
+use Rattle.routing_rules.specs.Cover.{under_all}
+use Rattle.routing_rules.specs.Marks.{Mark, covered}
 use Rattle.routing_rules.specs.Given.{mark, changed}
 use Rattle.routing_rules.specs.Scene.{Scene, Step, Moves, Resets, Pilfers, Shows, Mutes, Removes, NoOp}
 use Rattle.routing_rules.specs.Outgoing.{after, listing, cancels, cancels_of, moves, outside, opening, closing, is_up, is_cancelled, is_first, plain, or_else, sent_motion, sent_with, devices}
@@ -128,8 +129,8 @@ sent_nothing ds call answer es w l was is =
     let s : Scene = scene ds es in
     let e : Step = step_of (snapshot (past_of es)) call answer o in
     let k : Mark = mark s e in
-    let motions : motions_said s e k (origin (past_of es) w) w ≡ [] =
-    ap (map (λ m. MotionBody (motion_from (origin (past_of es) w) m)))
+    let motions : motions_said s e k (covered (k ∷ marks es) w) (origin (past_of es) w) w ≡ [] =
+    ap (λ ms. map (λ m. MotionBody (motion_from (origin (past_of es) w) m)) (under_all (covered (k ∷ marks es) w) ms))
     (flat_none (sent_with s e k w) devices
     (λ d. no_sent s e k w d was (λ i. no_pointer ds es w d i before.1 was)
     (λ i. sym (held_then k (marks es) w d i) ∙ no_pointer ds (step ds call answer es) w d i l is))) in

@@ -4,10 +4,11 @@ use Rattle.input_types.specs.declared.motion.MotionAction.TheVariants.{Down, Up}
 use Rattle.window_snapshot.specs.declared.window.Window.{Window}
 use Rattle.dispatch_calls.specs.declared.call.Call.{Call}
 use Rattle.dispatch_calls.specs.declared.call.Call.TheVariants.{Open, Windows, Receive, Finish}
-use Rattle.dispatch_history.specs.Effect.{stream}
+use Rattle.dispatch_history.specs.Effect.{Effect, stream}
 use Rattle.dispatch_history.specs.Legal.{run}
 use Rattle.dispatch_history.proofs.Worked.{at, motion, moved, one_display, says, window}
 use Rattle.live_input.specs.Outgoing.{sent_since}
+use Rattle.live_input.specs.Taking.{TakeAll}
 
 abbrev shown : Window
 shown = window 1 0 0 0 1080 2400
@@ -24,3 +25,13 @@ the_second_client_gets_its_own_finger_alone :
     sent_since (record { holder = Some 2; before = 2 }) (stream (run one_display (reverse closed_under_a_finger)) 1)
     ≡ says 1 5000 (motion Down 0 (at 0 100 200 ∷ [])) ∷ []
 the_second_client_gets_its_own_finger_alone = refl
+
+-- The same finger, and the calls that close the first client: its window goes, and it is handed and finishes the DOWN and the CANCEL.
+abbrev under_a_finger : List Effect
+under_a_finger = run one_display (reverse (Open 5000000 ∷ Windows 0 (shown ∷ []) ∷ [] ++ moved 1000 Down 0 (at 0 540 1200 ∷ [])))
+
+abbrev closing : List Call
+closing = Windows 2000 [] ∷ Receive 1 ∷ Finish 2000 1 1 ∷ Receive 1 ∷ Finish 2000 1 2 ∷ []
+
+each_call_of_a_close_takes_something : TakeAll one_display 2000 1 0 under_a_finger closing
+each_call_of_a_close_takes_something = ((refl, refl), (refl, ((refl, refl), (refl, ((refl, refl), tt)))))

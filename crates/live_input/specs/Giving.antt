@@ -1,13 +1,18 @@
 -- What devices deliver, and how the history grows by it.
-use Rattle.std.specs.Prelude.{ℕ, ◌≡◌, ◌&&◌, ◌⊎◌, Bool, true, false, List, [], ◌∷◌, ◌++◌, map, Result, Ok, Err}
+use Rattle.std.specs.Prelude.{ℕ, nat_eq, ◌≡◌, ◌&&◌, ◌⊎◌, Bool, true, false, List, [], ◌∷◌, ◌++◌, map, Some, Result, Ok, Err}
 use Rattle.input_types.specs.declared.message.Args.{Args}
 use Rattle.raw_events.specs.declared.event.RawEvent.{RawEvent}
-use Rattle.device_reader.specs.Cooked.{DevicePlan, args_of}
+use Rattle.input_types.specs.DeviceRule.{device_of, device_state}
+use Rattle.device_reader.specs.Cooked.{DevicePlan, args_of, number_of}
+use Rattle.device_reader.specs.Packets.{since_drop}
+use Rattle.device_reader.specs.Rule.{down_at}
 use Rattle.device_table.specs.Table.{StandsAt}
+use Rattle.dispatch_calls.specs.declared.call.Call.{Call}
 use Rattle.dispatch_calls.specs.declared.call.Call.TheVariants.{Notify}
-use Rattle.dispatch_history.specs.Effect.{Effect}
+use Rattle.dispatch_history.specs.Effect.{Effect, past_of}
 use Rattle.dispatch_history.specs.Legal.{answered}
 use Rattle.dispatch_history.specs.Ordered.{extend}
+use Rattle.dispatch_history.specs.Queue.{accepted}
 use Rattle.dispatch_history.specs.Reply.{reply_to}
 use Rattle.live_input.specs.declared.refused.ArgsRefused.{ArgsRefused}
 use Rattle.live_input.specs.declared.refused.ArgsRefused.TheVariants.{NoDevice, Inconsistent, Memory, Waits}
@@ -19,6 +24,11 @@ use Rattle.live_input.specs.State.{LiveState}
 -- Args are handed in, one after another.
 abbrev pub notified : List ℕ → (now : ℕ) → List Effect → List Args → List Effect
 notified displays now es args = extend displays es (map (Notify now) args)
+
+-- the call hands in args of this device
+abbrev pub hands_in : Call → ℕ → Bool
+hands_in (Notify now args) d = nat_eq (device_of args) d
+hands_in call d = false
 
 -- all of them are accepted: each fits what its device did before
 abbrev pub all_taken : List ℕ → (now : ℕ) → List Effect → List Args → Bool
@@ -63,3 +73,8 @@ abbrev pub GivesEvent :
     List ℕ → (now : ℕ) → List Effect → DevicePlan → List RawEvent → RawEvent → Result (Unit {0}) ArgsRefused → (old new : LiveState) → Type 0
 GivesEvent displays now es plan past e result old new =
     Gives displays now es (args_of plan past e) (StandsAt plan (e ∷ past) e.device new.devices) result old new
+
+-- The reader of a device, with this plan and these events so far, has the same down on its device as the args of it that
+-- the history accepted.
+abbrev pub IsFed : DevicePlan → List RawEvent → List Effect → Type 0
+IsFed plan past es = device_state (number_of plan) (accepted (past_of es)) ≡ Some (down_at plan (since_drop past))

@@ -1,7 +1,10 @@
 -- Proved facts about channels and their clients. Each law is the clause of a function of its own.
 use Rattle.std.specs.Prelude.{ℕ, ◌≡◌, ◌≤◌, ◌<◌, false, true, List, [], ◌∷◌, ◌++◌, drop, length, reverse, slice_get, Some, None}
 use Rattle.input_types.specs.declared.message.Message.{Message}
+use Rattle.input_types.specs.DeviceRule.{device_state, nothing_down}
 use Rattle.input_types.specs.StreamRule.{stream_state, unsent}
+use Rattle.raw_events.specs.declared.event.RawEvent.{RawEvent}
+use Rattle.device_reader.specs.Cooked.{DevicePlan, args_of, number_of}
 use Rattle.focus_resolver.specs.Resolver.{is_at}
 use Rattle.window_snapshot.specs.Named.{is_named}
 use Rattle.dispatch_calls.specs.declared.call.Call.{Call}
@@ -12,15 +15,17 @@ use Rattle.dispatch_history.specs.Delivery.{unfinished}
 use Rattle.dispatch_history.specs.Due.{anrs}
 use Rattle.dispatch_history.specs.Effects.{step, said_at}
 use Rattle.dispatch_history.specs.Focus.{requested}
-use Rattle.dispatch_history.specs.History.{clock, live, opened, received, snapshot}
+use Rattle.dispatch_history.specs.History.{History, clock, live, opened, received, snapshot}
 use Rattle.dispatch_history.specs.Known.{IsNumbered, NeverFalls, known_state}
 use Rattle.dispatch_history.specs.Legal.{answered}
 use Rattle.dispatch_history.specs.PointerOf.{AllRise}
+use Rattle.dispatch_history.specs.Queue.{accepted}
 use Rattle.dispatch_history.specs.Reply.{reply_to}
 use Rattle.dispatch_tables.specs.Lawful.{Lawful}
 use Rattle.dispatcher.specs.Access.{got, messages_of, anrs_released}
 use Rattle.live_input.specs.declared.client.Client.{Client}
 use Rattle.live_input.specs.Answers.{handed}
+use Rattle.live_input.specs.Giving.{IsFed, all_taken, hands_in, notified}
 use Rattle.live_input.specs.Seats.{is_held, is_open, seat_of}
 use Rattle.live_input.specs.Settling.{due_of, next_due, next_left}
 use Rattle.live_input.specs.Standing.{IsDone, LiveIs}
@@ -117,3 +122,23 @@ abbrev pub DoneLaw : Type 0
 DoneLaw =
     (displays : List ℕ) (now : ℕ) (es : List Effect) (s : LiveState) (c : ℕ)
     → LiveIs displays es s → next_left now c es ≡ None → IsDone es c
+
+-- A device on which nothing is down begins with its reader in agreement.
+abbrev pub FedFirstLaw : Type 0
+FedFirstLaw =
+    (es : List Effect) (plan : DevicePlan)
+    → device_state (number_of plan) (accepted (past_of es)) ≡ Some nothing_down → IsFed plan [] es
+
+-- While they agree, everything that an event of the device gives is accepted, and then they agree again.
+abbrev pub FedLaw : Type 0
+FedLaw =
+    (displays : List ℕ) (now : ℕ) (es : List Effect) (plan : DevicePlan) (past : List RawEvent) (e : RawEvent)
+    → IsFed plan past es
+    → (all_taken displays now es (args_of plan past e) ≡ true)
+    × IsFed plan (e ∷ past) (notified displays now es (args_of plan past e))
+
+-- A call that hands in no args of the device changes nothing about it.
+abbrev pub FedStaysLaw : Type 0
+FedStaysLaw =
+    (call : Call) (answer : Reply) (h : History) (d : ℕ)
+    → hands_in call d ≡ false → device_state d (accepted ((call, answer) ∷ h)) ≡ device_state d (accepted h)

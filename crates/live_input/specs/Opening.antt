@@ -50,7 +50,7 @@ pub record OpensOn (displays : List ℕ) (es : List Effect) (client : Client) (o
   pub before_is : (seat_of new.seats client.channel).before ≡ length (stream (opening displays old.limit client.channel es) client.channel)
   pub able_is : able (opening displays old.limit client.channel es) client.channel ≡ true
 
--- The seat of the client is vacant, and all others stay as they are. If the client was reported unresponsive, nobody is told that any more.
+-- Closing vacates the seat of the client and leaves all others as they are. A report of the client that was not answered yet is dropped.
 pub record Closes (client : Client) (old new : LiveState) : Type 0 where
   pub seats_are :
       new.seats

@@ -9,7 +9,7 @@ ghost use Rattle.raw_events.specs.declared.event.RawEvent.{RawEvent as Event};
 ghost use Rattle.device_reader.specs.Cooked.{DevicePlan};
 ghost use Rattle.device_table.specs.Table.{StandsAt, is_there, reader_of};
 ghost use Rattle.live_input.specs.Answers.{SameClients, SameSeats, is_taken};
-ghost use Rattle.live_input.specs.Giving.{Delivers, Gives, GivesEvent, HandedInPart, all_taken, notified};
+ghost use Rattle.live_input.specs.Giving.{Delivers, Gives, GivesEvent, HandedInPart, IsFed, all_taken, notified};
 ghost use Rattle.live_input.specs.Standing.{LiveIs};
 ghost use Rattle.live_input.specs.State.{latest};
 
@@ -44,6 +44,9 @@ impl Live {
             → GivesEvent ds (latest now self.old) es plan past
             (record { device = device; moment = latest now self.old; kind = kind; code = code; value = value })
             result self.old self.new }
+        ensures fits { (ds : List ℕ) (es : List Effect) (plan : DevicePlan) (past : List Event) → LiveIs ds es self.old
+            → StandsAt plan past device self.old.devices → self.old.pending ≡ [] → IsFed plan past es
+            → result ≡ Err ArgsRefused.Inconsistent → ⊥ }
         ensures others { (d : ℕ) → 1 ≤ d → (d == device) ≡ false
             → reader_of self.new.devices d ≡ reader_of self.old.devices d }
         ensures seats { SameSeats self.old self.new }

@@ -1,5 +1,5 @@
 //! Proved facts about channels and their clients. Each function has the laws as its clauses, and does nothing.
-ghost use Rattle.live_input.specs.Laws.{SilenceLaw, UnsentLaw, AloneLaw, OwnLaw, OwnNumbersLaw, NextLaw, VacantLaw, ClosedLaw, KeptLaw, AnrsLaw, LaterLaw, DoneLaw};
+ghost use Rattle.live_input.specs.Laws.{SilenceLaw, UnsentLaw, AloneLaw, OwnLaw, OwnNumbersLaw, NextLaw, VacantLaw, ClosedLaw, KeptLaw, AnrsLaw, LaterLaw, DoneLaw, FedFirstLaw, FedLaw, FedStaysLaw};
 
 /// A channel whose window is not shown is sent nothing more.
 pub fn silence()
@@ -35,4 +35,12 @@ pub fn memory()
 pub fn settling()
     ensures later { LaterLaw }
     ensures done { DoneLaw }
+{}
+
+/// A device and the history agree on what is down on it, as long as its args come from its events alone. So these
+/// always fit.
+pub fn readers()
+    ensures first { FedFirstLaw }
+    ensures fed { FedLaw }
+    ensures stays { FedStaysLaw }
 {}

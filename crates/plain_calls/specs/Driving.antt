@@ -13,10 +13,10 @@ use Rattle.dispatch_history.specs.Effect.{Effect}
 use Rattle.live_input.specs.declared.refused.AddRefused.{AddRefused}
 use Rattle.live_input.specs.declared.refused.AddRefused.TheVariants.{BadSlots}
 use Rattle.live_input.specs.declared.refused.ArgsRefused.{ArgsRefused}
-use Rattle.live_input.specs.declared.refused.ArgsRefused.TheVariants.{NoDevice}
+use Rattle.live_input.specs.declared.refused.ArgsRefused.TheVariants.{Inconsistent, NoDevice}
 use Rattle.live_input.specs.Advancing.{Advances, Advanced}
 use Rattle.live_input.specs.Answers.{SameSeats}
-use Rattle.live_input.specs.Giving.{Gives, GivesEvent, HandedInPart, notified}
+use Rattle.live_input.specs.Giving.{Gives, GivesEvent, HandedInPart, IsFed, notified}
 use Rattle.live_input.specs.Plugging.{Adds, is_slots}
 use Rattle.live_input.specs.Settling.{due_of}
 use Rattle.live_input.specs.Standing.{IsMaskOfHeld, LiveIs}
@@ -56,6 +56,9 @@ pub record Happened (now device kind code : ℕ) (value : ℤ) (old new : LiveSt
       (ds : List ℕ) (es : List Effect) (plan : DevicePlan) (past : List RawEvent) → LiveIs ds es old
       → StandsAt plan past device old.devices
       → GivesEvent ds (latest now old) es plan past (event (latest now old) device kind code value) r old new
+  pub fits :
+      (ds : List ℕ) (es : List Effect) (plan : DevicePlan) (past : List RawEvent) → LiveIs ds es old
+      → StandsAt plan past device old.devices → old.pending ≡ [] → IsFed plan past es → r ≡ Err Inconsistent → ⊥
   pub others : OthersStay device old new
   pub seats : SameSeats old new
   pub named : new.named ≡ old.named

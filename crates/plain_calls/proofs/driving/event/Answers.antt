@@ -15,6 +15,7 @@ returns c =
       none = c.event.ensures.none;
       after = λ ds es plan past h st.
           subst (λ e. GivesEvent ds (latest now old) es plan past e c.event.result old new) same (c.event.ensures.after ds es plan past h st);
+      fits = c.event.ensures.fits;
       others = c.event.ensures.others;
       seats = c.event.ensures.seats;
       named = c.event.ensures.named;

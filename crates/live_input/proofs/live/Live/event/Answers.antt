@@ -7,7 +7,8 @@ use Rattle.device_table.specs.Table.{StandsAt, is_there}
 use Rattle.live_input.specs.Giving.{GivesEvent}
 use Rattle.live_input.specs.Standing.{LiveIs}
 use Rattle.live_input.specs.State.{LiveState, latest}
-use Rattle.live_input.proofs.Handing.{beside_goes, delivers_in, event_at, not_there, same_value}
+use Rattle.live_input.proofs.Fed.{fed_law}
+use Rattle.live_input.proofs.Handing.{beside_goes, delivers_in, event_at, not_refused, not_there, same_value}
 use Rattle.live_input.proofs.live.Live.event.Goals as goal
 
 pub returns-then-not-is_there-clause-after : goal.returns-then-not-is_there-clause-after
@@ -37,3 +38,23 @@ returns-in-Ok-clause-after c = λ ds es plan past h st.
     (subst (StandsAt plan (e ∷ past) e.device) (sym c.deliver.ensures.devices) (c.in-Ok.ensures.after plan past at))
     c.deliver.ensures.clock
     (c.deliver.ensures.after ds es there)))
+
+pub returns-then-not-is_there-clause-fits : goal.returns-then-not-is_there-clause-fits
+returns-then-not-is_there-clause-fits c = λ ds es plan past h st none fed e. absurd cc
+
+pub returns-in-Err-clause-fits : goal.returns-in-Err-clause-fits
+returns-in-Err-clause-fits c = λ ds es plan past h st none fed e. absurd cc
+
+pub returns-in-Ok-clause-fits : goal.returns-in-Ok-clause-fits
+returns-in-Ok-clause-fits c = λ ds es plan past h st none fed refused.
+    let e = c.event_of-event.result in
+    let same =
+    c.event_of-event.ensures ∙ same_value c.args.device c.later-now.result c.args.kind c.args.code _ c.args.value (to_z-of_z w32 c.args.value c.ranges.value) in
+    let of_it = ap (λ (x : RawEvent). x.device) same in
+    let at =
+    subst (λ d. StandsAt plan past d c.self.inside.devices) (sym of_it)
+    (subst (λ (s : LiveState). StandsAt plan past c.args.device s.devices) (sym c.self.view_is) st) in
+    let there = beside_goes ds es _ (subst (LiveIs ds es) (sym c.self.view_is) h) c.take_into.new.self c.take_into.new.args.items c.later-now.result in
+    let given =
+    c.in-Ok.ensures.ok plan past at ∙ ap (λ (s : LiveState). s.pending ++ args_of plan past e) c.self.view_is ∙ ap (λ ps. ps ++ args_of plan past e) none in
+    not_refused ds c.later-now.result es _ _ _ _ given (fed_law ds c.later-now.result es plan past e fed).0 refused (c.deliver.ensures.after ds es there)
