@@ -1,6 +1,9 @@
 /*
  * Structs that may grow. A caller hands in the size that the struct has in the header that it was compiled with, as the
  * kernel's openat2 and clone3 have it: what a shorter one lacks is 0, and what a longer one has beyond ours has to be 0.
+ *
+ * A new member begins at or behind the size that its struct had before. Each struct here but the state has padding at its
+ * end, which an older program hands in without having written it.
  */
 #ifndef INPUTFLINGER_SIZED_H
 #define INPUTFLINGER_SIZED_H

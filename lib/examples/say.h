@@ -16,8 +16,12 @@ static void say_motion(FILE *out, const struct inputflinger_message *m)
 	fprintf(out, "motion %u %s", m->device, names[m->action]);
 	if (m->action >= INPUTFLINGER_POINTER_DOWN)
 		fprintf(out, ":%u", m->index);
-	if (m->flags == INPUTFLINGER_FLAG_CANCELED)
+	if (m->flags & INPUTFLINGER_FLAG_CANCELED)
 		fputs(" canceled", out);
+	if (m->flags & INPUTFLINGER_FLAG_OBSCURED)
+		fputs(" obscured", out);
+	if (m->flags & INPUTFLINGER_FLAG_PARTLY_OBSCURED)
+		fputs(" partly", out);
 	for (uint32_t i = 0; i < m->count; i++)
 		fprintf(out, " %" PRIu32 "@%" PRId32 ",%" PRId32, m->pointers[i].id, m->pointers[i].x, m->pointers[i].y);
 }

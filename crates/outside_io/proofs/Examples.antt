@@ -1,10 +1,7 @@
 -- Worked examples of the definitions.
-use Rattle.std.proofs.Common.{◌≡◌, ◌^◌, ◌-◌, List, true, false, [], ◌∷◌, Some, None, refl, arith}
+use Rattle.std.proofs.Common.{◌≡◌, ◌^◌, ◌-◌, List, [], ◌∷◌, Some, None, refl, arith}
 use Rattle.outside_io.specs.Outside.{raised, Rose, Entry, begun, broken, bytes_of, gave}
 use Rattle.outside_io.specs.Trace.{going, at_end, failed}
-use Rattle.outside_io.specs.Calls.{is_listed}
-use Rattle.outside_io.specs.MemFiles.{names_differ_in}
-use Rattle.outside_io.specs.MemSink.{SinkState, write_fails}
 
 -- one more fault is a rise, none is not
 a_rise : Rose 3 4
@@ -29,29 +26,6 @@ second = refl
 
 absent : bytes_of two (97 ∷ 97 ∷ []) ≡ None
 absent = refl
-
-differ : names_differ_in two ≡ true
-differ = refl
-
-twice : names_differ_in ((97 ∷ [], []) ∷ two) ≡ false
-twice = refl
-
--- calls 2 and 5 are to fail
-listed : is_listed 5 (2 ∷ 5 ∷ []) ≡ true
-listed = refl
-
-not_listed : is_listed 4 (2 ∷ 5 ∷ []) ≡ false
-not_listed = refl
-
--- a full sink fails for a piece that is not empty, and takes an empty one
-abbrev full : SinkState
-full = record { taken = 7 ∷ []; room = 0; piece = 1; failing = []; next = 2; faults = 0; writes = record { handed = 7 ∷ 8 ∷ []; count = 1 } ∷ [] }
-
-full_fails : write_fails full 1 ≡ true
-full_fails = refl
-
-empty_passes : write_fails full 0 ≡ false
-empty_passes = refl
 
 -- a file `a` of two bytes, into a buffer of three: both come, and then the end
 both : gave (begun (97 ∷ [])) 2 (5 ∷ 6 ∷ 0 ∷ []) ≡ record { name = 97 ∷ []; given = 5 ∷ 6 ∷ []; stage = going }

@@ -1,6 +1,4 @@
 pub mod Calls
 pub mod HostFiles
-pub mod MemFiles
-pub mod MemSink
 pub mod Outside
 pub mod Trace

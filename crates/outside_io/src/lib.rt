@@ -6,33 +6,28 @@
 //!
 //! Each of them logs what passed through it: a source the bytes that it gave and whether it reached its
 //! end or failed, files their readings one after another, a sink the bytes that it took and the writes that it
-//! was asked for. Contracts see that of every object, and what a file holds where the object tells it.
-//! [`MemFiles`] always does; as [`MemSink`], it fails at the calls that its maker named. [`HostFiles`]
-//! and [`HostSink`] stand over the machine's files and streams: they log what its reads gave and its
-//! writes took, and tell nothing of what the files hold. The form of the traits is this project's own
-//! choice.
+//! was asked for. Contracts see that of every object, and what a file holds where the object knows it.
+//! [`HostFiles`] and [`HostSink`] stand over the machine's files and streams: they log what its reads gave and its
+//! writes took, and know nothing of what the files hold. This project chose the form of the traits.
 //!
 //! The logs exist in proofs alone: a [`ReadingTrace`] of one file, a [`FilesTrace`] of one file after
 //! another, a [`SinkTrace`] of a sink. A trace takes no room, its calls do nothing when they run, and it
 //! says no more than the calls that note it.
 //!
-//! For example, with the file `greeting` of the five bytes `hello`, a piece of 3, and call 3 to fail:
+//! For example, the machine has the file `greeting` of the five bytes `hello`, and its second read fails:
 //!
-//! | call | | answer | bytes left | faults of the source |
-//! |---|---|---|---|---|
-//! | 1 | `files.source("greeting")` | a source | `hello` | 0 |
-//! | 2 | `source.read(&mut [0; 8])` | 3, `hel` | `lo` | 0 |
-//! | 3 | `source.read(&mut [0; 8])` | `Failed` | `lo` | 1 |
+//! | call | answer | given | faults of the source |
+//! |---|---|---|---|
+//! | `files.source("greeting")` | a source | | 0 |
+//! | `source.read(&mut [0; 3])` | 3, `hel` | `hel` | 0 |
+//! | `source.read(&mut [0; 3])` | `Failed` | `hel` | 1 |
 //!
 //! `files.done(source)` then adds that fault to the count of the files, and a reading to their log that gave
-//! `hel` and failed. The next call of the files is number 4.
+//! `hel` and failed.
 #![tactic(auto)]
 
-mod copying;
 mod host_files;
 mod host_sink;
-mod mem_files;
-mod mem_sink;
 mod outside;
 mod reading;
 mod readings;
@@ -41,8 +36,6 @@ mod writing;
 
 pub use host_files::{HostFiles, HostSource};
 pub use host_sink::HostSink;
-pub use mem_files::{MemFiles, MemSource, names_differ};
-pub use mem_sink::MemSink;
 pub use outside::{Failed, Files, Sink, Source, SourceRefused};
 pub use reading::ReadingTrace;
 pub use readings::FilesTrace;
