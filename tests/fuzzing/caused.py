@@ -5,8 +5,8 @@ from collections import Counter
 
 from .causes import Causes
 from .delivery import delivered, named
-from .laws import FOCUS, KEY, MOTION, ends_so, moments, need, sections
-from .make import Window, owned
+from .laws import FOCUS, KEY, MOTION, ends_so, marks_of, moments, need, sections
+from .make import Window, owned, sides, some_frame
 from .recording import KEY as KEY_EVENT
 from .recording import DROPPED, REPORT, SYN, Down, read
 from .replayed import removals
@@ -83,18 +83,22 @@ def answers(case, told, last):
 
 
 def wide(case, rng):
-    """Windows of some owners over halves of the displays or all of one, with flags, often a spy in front."""
+    """Windows of some owners over halves of the displays or all of one, with flags, often a spy in front; between them overlays over a
+    display or a part of it, which cannot be touched."""
     names = [channel[0] for channel in case.channels]
     windows = []
     for k, name in enumerate(rng.sample(names, len(names))):
         display = rng.choice((0, 0, rng.randrange(len(case.displays))))
-        width, height, turned = case.displays[display]
-        if turned in (90, 270):
-            width, height = height, width
+        width, height = sides(case.displays[display])
         frame = rng.choice(((0, 0, width // 2, height), (width // 2, 0, width, height), (0, 0, width, height)))
         spy = k < 2 and rng.random() < 0.6
-        flag = "SPY" if spy else rng.choice(("PREVENT_SPLITTING", "SLIPPERY", "NOT_FOCUSABLE", "NOT_TOUCHABLE"))
-        windows.append(owned(rng, Window(name, display, frame, [flag])))
+        flags = ["SPY" if spy else rng.choice(("PREVENT_SPLITTING", "SLIPPERY", "NOT_FOCUSABLE", "NOT_TOUCHABLE"))]
+        flags += ["TRUSTED_OVERLAY"] if rng.random() < 0.1 else []
+        if k > 0 and rng.random() < 0.4:
+            frame = rng.choice(((0, 0, width, height), some_frame(rng, width, height)))
+            windows.insert(rng.randint(0, k), owned(rng, Window(name, display, frame, ["NOT_TOUCHABLE"]), (1, 2, 3)))
+        else:
+            windows.append(owned(rng, Window(name, display, frame, flags), (0, 0, 1)))
     return windows
 
 
@@ -146,4 +150,19 @@ def followed(causes, text, told):
     said = Counter(what for number, _, messages, _ in told[0] for message in messages for what in told_by(message, number))
     missing, more = said - causes.said, causes.said - said
     need(not missing and not more, "told without a cause: %s; caused and not told: %s" % (sorted(missing)[:5], sorted(more)[:5]))
+    for number, _, messages, _ in told[0]:
+        marked(causes, number, messages)
     return causes
+
+
+def marked(causes, number, messages):
+    """Each motion has the marks that its window was given last with a pointer of the device, of which the lines tell."""
+    given = {}
+    for text in messages:
+        match = MOTION.fullmatch(text)
+        if not match or match.group(4) == "OUTSIDE":
+            continue
+        device = int(match.group(3))
+        given[device] = given.get(device, 0) + (match.group(4) in ("DOWN", "POINTER_DOWN"))
+        wanted = causes.marks[number, device][given[device] - 1]
+        need(marks_of(text) == wanted, "channel %d has the marks %s: %s" % (number, sorted(wanted), text))

@@ -1,55 +1,9 @@
 """The lines of `why`, gone through one by one: who holds what by them, and what windows are to be told."""
-import re
 from collections import Counter
 
+from .cause_lines import BEHIND, FORMS, lost, one, rising
 from .laws import need
-from .trust import blockers
-
-SET = r"((?:\d+,)*\d+|-)"
-ONE = r"(\d+|-)"
-AT = r"(\d) (\d+) (-?\d+),(-?\d+)"
-LOST = r"((?:(?:key )?\d:[\d,]+ ?)+(?<! )|-)"
-SETS = r" spies %s pilfering %s given %s mute %s outside %s((?: blocked \d+ by [\d,]+)*)" % ((SET,) * 5)
-# The lines by their first words.
-FORMS = {
-    "windows": r"windows((?: \d+@\d(?::-?\d+|,-?\d+)+)*)",
-    "down": r"down %s touched %s row (\w+) chosen %s" % (AT, ONE, ONE) + SETS,
-    "slip": r"slip %s from (\d+) to (\d+)" % AT,
-    "up": r"(up) (\d) (\d+) from %s" % SET,
-    "palm": r"(palm) (\d) (\d+) from %s" % SET,
-    "reset": r"reset (\d) from %s" % SET,
-    "key": r"key (\d) (\d+) (?:down target %s given %s|up from %s|repeat (\d+) to (\d+))" % (ONE, ONE, ONE),
-    "pilfer": r"pilfer (\d+) (\d) (?:%s from %s|(Gone|NotSpy|NothingHeld))" % (SET, SET),
-    "timeout": r"timeout (\d+) (\d+) %s" % LOST,
-    "responsive": r"responsive (\d+)",
-    "removed": r"removed (\d+) (?:(Gone)|%s)" % LOST,
-    "request": r"request (\d) %s" % ONE,
-    "gone": r"gone (\d+) %s" % LOST,
-    "focus": r"focus (\d) %s %s" % (ONE, ONE),
-    "target": r"target %s %s" % (ONE, ONE),
-}
-FORMS = {word: re.compile(form) for word, form in FORMS.items()}
-# Lines that belong to the step of the line before them, in this order.
-BEHIND = ("gone", "focus", "target")
-
-
-def one(word):
-    return None if word in (None, "-") else int(word)
-
-
-def rising(word):
-    """The numbers of a set, which rise."""
-    listed = [] if word == "-" else [int(n) for n in word.split(",")]
-    need(all(a < b for a, b in zip(listed, listed[1:])), "the set %s does not rise" % word)
-    return listed
-
-
-def lost(words):
-    """The pointers and the keys of `<lost>`, each as (device, number): a set of each device with pointers, and then each key."""
-    items = re.findall(r"(key )?(\d):([\d,]+)", words)
-    pairs = [(bool(key), int(device), n) for key, device, listed in items for n in rising(listed)]
-    need(pairs == sorted(set(pairs)), "what is lost does not rise: %s" % words)
-    return {pair[1:] for pair in pairs if not pair[0]}, {pair[1:] for pair in pairs if pair[0]}
+from .trust import blockers, marks
 
 
 class Causes:
@@ -63,6 +17,8 @@ class Causes:
         self.said, self.seen, self.namings, self.answering = Counter(), Counter(), [], []
         # By window: its pointers and its keys as (device, number), and by device since which line it holds some.
         self.holds, self.keys, self.since = ({n: {} for n in self.numbers.values()} for _ in range(3))
+        # By window and device the marks after each pointer that it is given.
+        self.marks = {}
         self.pilferers, self.mute, self.removed = set(), set(), set()
         self.shown, self.windows, self.focus, self.asked, self.key_target, self.focused = [], {}, {}, 0, None, set()
         # The pointers and keys that are down; the moment, the number of the line, and where in its step it stands.
@@ -121,6 +77,9 @@ class Causes:
         return [window for window in self.holds if pointer in self.holds[window]]
 
     def give(self, window, device, number, x, y):
+        name, there = self.on_display(device, window)
+        after = self.marks.setdefault((window, device), [])
+        after.append(marks(there, name, (int(x), int(y))) | (after[-1] if self.has(window, device) else set()))
         if not self.has(window, device):
             self.since[window][device] = self.count
         need((device, number) not in self.holds[window], "window %d is given what it holds" % window)
@@ -171,11 +130,15 @@ class Causes:
         alone = self.flagged([touched], "PREVENT_SPLITTING") and not self.has(touched, device)
         return (first, "whole") if alone else (touched, "split")
 
-    def blocked_by(self, device, window, x, y):
-        """The windows that block a window where a pointer of a device is, by their numbers."""
+    def on_display(self, device, window):
+        """The name of a window, and the windows on the display of a device, front to back."""
         display = self.displays[device - 1]
         there = [w for w in self.shown if w.display == display and self.numbers[w.name] not in self.removed]
-        name = next(name for name, number in self.numbers.items() if number == window)
+        return next(name for name, number in self.numbers.items() if number == window), there
+
+    def blocked_by(self, device, window, x, y):
+        """The windows that block a window where a pointer of a device is, by their numbers."""
+        name, there = self.on_display(device, window)
         return sorted(self.numbers[name] for name in blockers(there, name, (int(x), int(y))))
 
     def on_down(self, device, number, x, y, touched, row, chosen, *sets):

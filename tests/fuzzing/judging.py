@@ -2,8 +2,9 @@
 streams."""
 import re
 
-from .laws import KEY, MOTION, ending, ends_so, need, owner_of
-from .make import SCANS, damaged, line
+from .damage import damaged
+from .laws import KEY, MARKS, MOTION, ending, ends_so, marks_of, need, owner_of
+from .make import SCANS, line
 from .recording import down_after, read
 from .replays import again
 
@@ -59,10 +60,11 @@ def why_twice(text):
 
 
 def judges(program, case, told):
-    """A message twice, of those that cannot come twice, is the first that is not well-formed; a line with a blank
-    behind it is no line. Of the streams as they are it is told which section leaves something down."""
+    """A message twice, of those that cannot come twice, is the first that is not well-formed, and so is a touch outside with a mark; a line
+    with a blank behind it is no line. Of the streams as they are it is told which section leaves something down."""
     ends_so_judged(program, told)
     rng = case.drawn("judges")
+    outside_with_marks(program, told, rng)
     twice = r"\d+ \d+ (motion \d (DOWN|POINTER_DOWN:\d+|POINTER_UP:\d+|UP|CANCEL)\b|key|focus).*"
     places = [(k, j) for k, c in enumerate(told[0]) for j, m in enumerate(c[2]) if re.fullmatch(twice, m)]
     if not places:
@@ -80,6 +82,19 @@ def judges(program, case, told):
     program.refuses(b"\n".join(lines), refusal)
     ends_so(program.judge(b"\n".join(lines)), 1, refusal)
     as_verified(program, damaged(rng, written(told)))
+
+
+def outside_with_marks(program, told, rng):
+    """A touch outside may not have a mark."""
+    places = [(k, j) for k, c in enumerate(told[0]) for j, m in enumerate(c[2]) if " OUTSIDE " in m]
+    if not places:
+        return
+    k, j = rng.choice(places)
+    number, _, messages, _ = told[0][k]
+    text = written(with_messages(told, k, messages[:j] + [other_marks(messages[j], rng)] + messages[j + 1 :]))
+    bad = lines_of(told, number)[j][0]
+    program.refuses(text, "stream: NotWellFormed %d\n" % bad)
+    ends_so(program.judge(text), 1, "stream: Broken %d Flags\n" % bad)
 
 
 def as_verified(program, text):
@@ -211,6 +226,14 @@ def moved_or_another(program, text, changed, message, differs, same, rng):
     if most < 31:
         another = " ".join([head] + listed[:-1] + ["%d@%s" % (most + 1, listed[-1].split("@")[1])])
         both_ways(program, text, changed(another), (10**9, 16384), differs % "pointers", differs % "pointers")
+    both_ways(program, text, changed(other_marks(message, rng)), (10**9, 16384), differs % "flags", differs % "flags")
+
+
+def other_marks(message, rng):
+    """A motion with other marks."""
+    head, listed = re.split(r" (?=\d+@)", MARKS.sub("", message), maxsplit=1)
+    marks = rng.choice([m for m in ("", " obscured", " partly", " obscured partly") if set(m.split()) != marks_of(message)])
+    return "%s%s %s" % (head, marks, listed)
 
 
 def each_move(program, told, text, bare):

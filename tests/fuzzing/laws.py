@@ -16,7 +16,8 @@ LINES = {
     6: r"no memory\n",
     7: r"too long: (session|recording|order|stream|steps|run)\n",
 }
-MOTION = re.compile(r"(\d+) (\d+) motion (\d) ([A-Z_]+)(?::(\d+))?( canceled)? (.+)")
+MOTION = re.compile(r"(\d+) (\d+) motion (\d) ([A-Z_]+)(?::(\d+))?( canceled)?(?: obscured)?(?: partly)? (\d+@.+)")
+MARKS = re.compile(r" (obscured|partly)\b")
 KEY = re.compile(r"(\d+) (\d+) key (\d) (\d+) (\d+) (\d+) (DOWN (\d+)|UP( canceled)? 0)")
 FOCUS = re.compile(r"(\d+) (\d+) focus ([01])")
 END = re.compile(r"end (\d+) sent (\d+) received (\d+) finished (\d+)")
@@ -78,16 +79,22 @@ def sections(out):
     return channels, namings
 
 
+def marks_of(text):
+    """The marks of a motion."""
+    return set(MARKS.findall(text))
+
+
 def moments(messages):
     return [int(text.split(" ")[1]) for text in messages]
 
 
 class Owner:
-    """What the owner of a window knows after each message: which fingers are down on each device, which keys, each with
+    """What the owner of a window knows after each message: which fingers are down on each device and with which marks, which keys, each with
     its next repeat and the moment of its last message, and whether the window is focused."""
 
     def __init__(self):
         self.down = {}
+        self.marks = {}
         self.keys = {}
         self.focused = False
         self.moment = 0
@@ -101,6 +108,7 @@ class Owner:
         need(motion or key or focus, "no message: %s" % text)
         if motion:
             self.motion(text, *motion.group(3, 4, 5, 6, 7))
+            self.marked(text, *motion.group(3, 4))
         elif key:
             self.key(text, key)
         else:
@@ -129,6 +137,18 @@ class Owner:
         need(len(ids) == 1 or action not in ("DOWN", "UP", "OUTSIDE"), "more than one finger: %s" % text)
         need(len(ids) > 1 or not action.startswith("POINTER_"), "one finger alone: %s" % text)
         self.down[device] = after
+
+    def marked(self, text, device, action):
+        """The marks of a device begin with its first finger, grow with a further one at most, and stay else."""
+        marks, before = marks_of(text), self.marks.get(device, set())
+        if action == "OUTSIDE":
+            need(not marks, "a touch outside has a mark: %s" % text)
+            return
+        if action == "POINTER_DOWN":
+            need(before <= marks, "a mark of %s is gone: %s" % (before, text))
+        elif action != "DOWN":
+            need(before == marks, "the marks were %s: %s" % (before, text))
+        self.marks[device] = marks
 
     def key(self, text, match):
         name = match.group(3), match.group(4)

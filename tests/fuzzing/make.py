@@ -2,6 +2,8 @@
 import random
 from typing import NamedTuple, Optional
 
+from .damage import damaged, some_bytes
+
 PATHS = ("/dev/input/event2", "/dev/input/event5", "/dev/input/event7", "/dev/input/event9")
 FLAGS = ("NOT_TOUCHABLE", "SPY", "PREVENT_SPLITTING", "SLIPPERY", "WATCH_OUTSIDE_TOUCH", "NOT_FOCUSABLE", "TRUSTED_OVERLAY")
 LAYOUT = "key 30 A\nkey 42 SHIFT_LEFT\nkey 115 VOLUME_UP\nkey 158 BACK\n"
@@ -21,10 +23,22 @@ class Window(NamedTuple):
     occlusion: str = "block"
 
 
-def owned(rng, window):
-    """The window as one of some owner, of some opacity and some occlusion. Most windows are of one owner."""
-    opacity = rng.choice((0, 50, 60, 80, 81, 100, rng.randint(0, 100)))
-    return window._replace(owner=rng.choice((0, 0, 0, 1, 2)), opacity=opacity, occlusion=rng.choice(("block", "opacity", "opacity", "allow")))
+def sides(display):
+    """The width and the height of a display, as it is turned."""
+    width, height, turned = display
+    return (height, width) if turned in (90, 270) else (width, height)
+
+
+def owned(rng, window, owners=(0, 0, 0, 1, 2)):
+    """The window as one of some owner, of some opacity and some occlusion."""
+    opacity = rng.choice((0, 20, 50, 60, 80, 81, 100, rng.randint(0, 100)))
+    return window._replace(owner=rng.choice(owners), opacity=opacity, occlusion=rng.choice(("block", "opacity", "opacity", "allow", "allow")))
+
+
+def some_frame(rng, width, height):
+    """A part of a display, and perhaps of what is beyond its edges."""
+    (left, right), (top, bottom) = (sorted((rng.randint(-10, side), rng.randint(0, side + 10))) for side in (width, height))
+    return left, top, right, bottom
 
 
 class Case:
@@ -101,16 +115,12 @@ class Case:
         windows = []
         for k, name in enumerate(names):
             display = rng.randrange(len(self.displays))
-            width, height, turned = self.displays[display]
-            if turned in (90, 270):
-                width, height = height, width
+            width, height = sides(self.displays[display])
             if self.apart:
                 frame = (width * k // len(names), 0, width * (k + 1) // len(names), height)
                 windows.append(Window(name, display, frame))
                 continue
-            left, right = sorted((rng.randint(-10, width), rng.randint(0, width + 10)))
-            top, bottom = sorted((rng.randint(-10, height), rng.randint(0, height + 10)))
-            frame = rng.choice(((0, 0, width, height), (left, top, right, bottom)))
+            frame = rng.choice(((0, 0, width, height), some_frame(rng, width, height)))
             flags = [f for f in FLAGS if rng.random() < 0.15]
             if k == 0 and len(names) > 1 and rng.random() < 0.4:
                 flags = [rng.choice(("SPY", "WATCH_OUTSIDE_TOUCH"))]
@@ -276,29 +286,3 @@ def act_text(act, what):
 def line(us, path, kind, code, value):
     """An event as `getevent -t` prints it."""
     return "[%8d.%06d] %s: %04x %04x %08x\n" % (us // 10**6, us % 10**6, path, kind, code, value % 2**32)
-
-
-def damaged(rng, text):
-    """The text with one to four damages."""
-    text = bytearray(text)
-    for _ in range(rng.randint(1, 4)):
-        at = rng.randrange(len(text) + 1)
-        kind = rng.randrange(6)
-        if kind == 0:
-            del text[at:]
-        elif kind == 1:
-            del text[at : at + rng.choice((1, 1, 4, 60))]
-        elif kind == 2:
-            text[at:at] = bytes([rng.choice(b"\n\r \t/[]09fF-\x00\xff\"=.")])
-        elif kind == 3:
-            text[at : at + 1] = bytes([rng.randrange(256)])
-        elif kind == 4:
-            text[at:at] = text[max(0, at - 50) : at]
-        else:
-            text[at:at] = rng.choice((b"4294967296", b"99999999999999999999", b"-1", b"16385", b" " * 5000))
-    return bytes(text)
-
-
-def some_bytes(rng):
-    letters = rng.choice((bytes(range(256)), b"[]0123456789.:/ abcdef\n", b"[\n=\"{},. display0123456789"))
-    return bytes(rng.choice(letters) for _ in range(rng.choice((0, 1, 50, 2000))))

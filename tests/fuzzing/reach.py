@@ -2,7 +2,7 @@
 import re
 
 from .judging import lines_of, written
-from .laws import MOTION, ends_so, moments, need
+from .laws import MOTION, ends_so, marks_of, moments, need
 
 MOST = 10**18
 
@@ -31,7 +31,7 @@ def items_of(messages, frame):
         match = MOTION.fullmatch(text)
         device = match and match.group(3)
         this = (number, moment, text)
-        moves = match and match.group(4) == "MOVE"
+        moves = match and match.group(4) == "MOVE" and not marks_of(text)
         if device in open_ones and not (moves and not parted(open_ones[device][-1], this, frame)):
             give(device)
         if not moves:

@@ -1,7 +1,8 @@
 """Laws of `replay`: of one run, and of two runs of which one has less than the other."""
 import re
 
-from .laws import ends_so, first_ones, moments, need, owner_of, sections, until
+from .laws import MARKS, MOTION, ends_so, first_ones, marks_of, moments, need, owner_of, sections, until
+from .make import Window, sides
 from .recording import read
 from .replayed import judged
 
@@ -102,6 +103,28 @@ def trusting(program, case, told):
     plain = with_windows(case.steps, lambda window: window._replace(owner=0, opacity=100, occlusion="block"))
     one, other = (program.replay(case.session_text(some).encode(), case.recording) for some in (steps, plain))
     need(one == other, "windows of one owner are told something else with other opacities")
+    need(not MARKS.search(one.decode("ascii")), "a window is told of marks, and no other has another owner")
+
+
+def covered(program, case, told):
+    """Under windows of another owner over each display, which touches go through, the same is told with one mark: each pointer is given where
+    a window is obscured, and so nowhere where it is not."""
+    covers = [Window("over%d" % k, k, (0, 0) + sides(display), ("NOT_TOUCHABLE", "NOT_FOCUSABLE"), None, 4294967295, 100, "allow")
+              for k, display in enumerate(case.displays)]
+    steps = [step[:3] + (covers + list(step[3]),) if step[2] == "windows" else step for step in case.steps]
+    channels = case.channels
+    case.channels = channels + [(cover.name, 5000, 0, True) for cover in covers]
+    try:
+        both = again(program, case, steps, case.recording)
+    finally:
+        case.channels = channels
+    bare = lambda of: [(number, name, [MARKS.sub("", text) for text in messages], counts) for number, name, messages, counts in of]
+    need((bare(both[0][: len(channels)]), both[1]) == (bare(told[0]), told[1]), "under windows of another owner something else is told")
+    for number, _, messages, _ in both[0]:
+        for text in messages:
+            match = MOTION.fullmatch(text)
+            wanted = {"obscured"} if match and match.group(4) != "OUTSIDE" else set()
+            need(marks_of(text) == wanted, "channel %d is covered, and told %s" % (number, text))
 
 
 def shuffled(program, case, told):

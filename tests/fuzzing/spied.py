@@ -2,19 +2,18 @@
 import re
 
 from .laws import MOTION, need
-from .make import Window
+from .make import Window, sides
 from .mouse import candidates, windows_at
 from .recording import read
 from .replayed import judged, removals
-from .trust import blockers
+from .trust import blockers, marks
 
 
 def with_spies(case):
     """The session with a spy for each display, which is trusted, and its steps."""
     spies = []
-    for number, (width, height, turned) in enumerate(case.displays):
-        width, height = (height, width) if turned in (90, 270) else (width, height)
-        spies.append(Window("all%d" % number, number, (0, 0, width, height), ("SPY", "NOT_FOCUSABLE", "TRUSTED_OVERLAY")))
+    for number, display in enumerate(case.displays):
+        spies.append(Window("all%d" % number, number, (0, 0) + sides(display), ("SPY", "NOT_FOCUSABLE", "TRUSTED_OVERLAY")))
     steps = [step[:3] + (spies + list(step[3]),) if step[2] == "windows" else step for step in case.steps]
     return [(spy[0], 5000, 0, True) for spy in spies], steps
 
@@ -70,14 +69,15 @@ def spied(program, case, told):
 
 
 def first_down(case, told, display, match, pointer):
-    """Where one window alone can be touched, and is not blocked, it is told that the finger goes down, and the windows in front of it that
+    """Where one window alone can be touched, and is not blocked, it is told that the finger goes down, with its mark, and the windows in front of it that
     watch are told of a touch outside; those that were named once may not be."""
     moment, removed = int(match.group(2)), removals(case.steps)
     there = list(candidates(case, removed, moment, pointer[1:], display))
     if len(there) != 1:
         return
     shown = [window for window in windows_at(case, moment) if window.display == display and removed.get(window.name, moment + 1) > moment]
-    wanted = {} if blockers(shown, there[0], pointer[1:]) else {there[0]: "DOWN"}
+    marked = "".join(" " + mark for mark in marks(shown, there[0], pointer[1:]))
+    wanted = {} if blockers(shown, there[0], pointer[1:]) else {there[0]: "DOWN" + marked}
     for window in shown:
         if window.name == there[0]:
             break

@@ -32,7 +32,7 @@ def counted(text):
         elif len(words) > 4 and words[2] == "motion":
             action, _, index = words[4].partition(":")
             canceled = words[5] == "canceled"
-            ids = [(words[3], word.split("@")[0]) for word in words[5 + canceled:]]
+            ids = [(words[3], word.split("@")[0]) for word in words[5:] if "@" in word]
             one = ids[int(index or 0)]
             if action in ("DOWN", "POINTER_DOWN"):
                 bars += 1

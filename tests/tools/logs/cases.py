@@ -120,6 +120,12 @@ CASES = [
      "stream: NotWellFormed 3"),
     ("a cancel", [], threadtime(TWO_FINGERS[0]) + threadtime(motion_event("CANCEL", [A], 12345200, "0x20")),
      section("Touches/4242", "1 12345100000 motion 1 DOWN 0@540,1200\n2 12345200000 motion 1 CANCEL 0@540,1200\n"), [], "well formed 1 2"),
+    ("marks", [], threadtime(motion_event("DOWN", [A], 12345100, "0x1")) + threadtime(motion_event("POINTER_DOWN(1)", [A, B], 12345110, "0x3"))
+     + threadtime(motion_event("OUTSIDE", [A], 12345110, "0x1")) + threadtime(motion_event("POINTER_UP(0)", [A, B], 12345120, "0x23"))
+     + threadtime(motion_event("UP", [B], 12345130, "0x2")),
+     section("Touches/4242", "1 12345100000 motion 1 DOWN obscured 0@540,1200\n2 12345110000 motion 1 POINTER_DOWN:1 obscured partly 0@540,1200 1@101,200\n"
+             "3 12345110000 motion 1 OUTSIDE 0@540,1200\n4 12345120000 motion 1 POINTER_UP:0 canceled obscured partly 0@540,1200 1@101,200\n"
+             "5 12345130000 motion 1 UP partly 1@101,200\n"), [], "well formed 1 5"),
     ("an index that is no place", [], threadtime(TWO_FINGERS[0]) + threadtime(motion_event("POINTER_DOWN(2)", [A, B], 12345200)),
      section("Touches/4242", "1 12345100000 motion 1 DOWN 0@540,1200\n2 12345200000 motion 1 POINTER_DOWN:2 0@540,1200 1@101,200\n"),
      ["line 2: the index is no place among the fingers; it is written so, and verify refuses it"], "stream: BadLine 3"),
