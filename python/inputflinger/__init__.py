@@ -20,12 +20,14 @@ in Rattle and proved; this package declares its calls and is tested.
 from inputflinger.errors import BadLayout, Broken, InputflingerError, RunError, Status, WindowError
 from inputflinger.judge import HeldKey, Judge, State
 from inputflinger.live import Client, Live, Panel, Rect, Window, WindowFlag
-from inputflinger.messages import FLAG_CANCELED, Action, Fault, Focus, Key, Message, Motion, Pointer, Reason
+from inputflinger.messages import FLAG_CANCELED, FLAG_OBSCURED, FLAG_PARTLY_OBSCURED, Action, Fault, Focus, Key, Message, Motion, Pointer, Reason
 from inputflinger.native import version
 from inputflinger.program import Ran, run
 
 __all__ = [
     "FLAG_CANCELED",
+    "FLAG_OBSCURED",
+    "FLAG_PARTLY_OBSCURED",
     "Action",
     "BadLayout",
     "Broken",

@@ -9,6 +9,10 @@ MOTION, KEY, FOCUS, RESET = range(4)
 
 FLAG_CANCELED = 0x20
 """The flag of a POINTER_UP, and of a key that goes up, that is not meant as one."""
+FLAG_OBSCURED = 0x1
+"""The mark of a motion whose gesture has a finger that a window of another owner covers."""
+FLAG_PARTLY_OBSCURED = 0x2
+"""The mark of a motion of a window that a window of another owner covers in another place."""
 
 
 class Action(enum.IntEnum):

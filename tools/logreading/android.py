@@ -17,7 +17,7 @@ LONG = re.compile(r"\[ %s(?P<pid>[0-9]+): *[0-9]+ [VDIWEFAS]/(?P<tag>.*?) *\]$" 
 DROPPED = re.compile(r"\bchatty *(?:\([^)]*\))?: .*?((?:identical|expire) [0-9]+ lines?)")
 
 ACTIONS = ["DOWN", "UP", "MOVE", "CANCEL", "OUTSIDE", "POINTER_DOWN", "POINTER_UP"]
-CANCELED = 0x20
+CANCELED, OBSCURED, PARTLY = 0x20, 0x1, 0x2
 POINTER_SOURCE = 0x2
 
 # The key codes from 0 on, by name.
@@ -55,6 +55,14 @@ METAS = {
     "META_NUM_LOCK_ON": 0x200000,
     "META_SCROLL_LOCK_ON": 0x400000,
 }
+
+
+def words_of(action, flags):
+    """What a line says of a motion's flags. A touch outside has no marks in a stream."""
+    said = " canceled" if flags & CANCELED and action in ("UP", "POINTER_UP") else ""
+    if action != "OUTSIDE":
+        said += (" obscured" if flags & OBSCURED else "") + (" partly" if flags & PARTLY else "")
+    return said
 
 
 class Cut(Exception):
@@ -153,9 +161,8 @@ class Reader:
         if "id[%d]" % count in fields or ("id[0]" in fields and "id[%d]" % (count - 1) not in fields):
             raise Cut("pointerCount that fits")
         pointers = [(one, real(fields, "x[%d]" % k), real(fields, "y[%d]" % k)) for k, one in enumerate(places)]
-        canceled = action in ("UP", "POINTER_UP") and bool(number(fields, "flags", 0) & CANCELED)
         moment, device = number(fields, "eventTime") * 1000, ("Android", fields.get("deviceId", "0"))
-        self.streams.motion(line_number, window, moment, device, action, pointers, index, canceled)
+        self.streams.motion(line_number, window, moment, device, action, pointers, index, words_of(action, number(fields, "flags", 0)))
 
     def action(self, text):
         """The action without ACTION_, and the index that stands behind it."""

@@ -35,7 +35,7 @@ class Fingers:
     def write(self, number, window, moment, device, action, gesture, finger=None, canceled=False):
         pointers, places = gesture.listed()
         index = places[finger] if finger is not None else None
-        self.streams.motion(number, window, moment, device, action, pointers, index, canceled)
+        self.streams.motion(number, window, moment, device, action, pointers, index, " canceled" if canceled else "")
 
     def flush(self, window, device):
         """Writes the moves that wait."""

@@ -91,8 +91,8 @@ class Streams:
             self.notes.add(number, "a moment is later than 10^18 microseconds%s" % REFUSED)
         return us
 
-    def motion(self, number, window, moment, device, action, pointers, index=None, canceled=False):
-        """A motion whose pointers are in the log's order, each an id, x and y. The index is a place among them."""
+    def motion(self, number, window, moment, device, action, pointers, index=None, flags=""):
+        """A motion whose pointers are in the log's order, each an id, x and y. The index is a place among them, and the flags are the words of a line."""
         device = self.device(number, device)
         section = self.section(number, window) if device else None
         if section is None:
@@ -111,7 +111,7 @@ class Streams:
             else:
                 index = order.index(index)
             action = "%s:%d" % (action, index)
-        words = ["motion %d %s%s" % (device, action, " canceled" if canceled else "")]
+        words = ["motion %d %s%s" % (device, action, flags)]
         for k in order:
             finger, x, y = pointers[k]
             words.append("%d@%d,%d" % (finger, self.place(number, x), self.place(number, y)))

@@ -10,7 +10,7 @@ use std::ptr;
 /// Why a message may not come: the first reason that holds of those of its kind.
 #[derive(Clone, Copy, Debug, PartialEq, Eq)]
 pub enum Reason {
-    /// A motion is canceled that is no `PointerUp`.
+    /// A motion is canceled that is no `PointerUp`, or an `Outside` has a mark.
     Flags,
     /// A `Down` where pointers are down, or a `PointerDown` of a pointer that is down.
     AlreadyDown,

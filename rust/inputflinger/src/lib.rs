@@ -30,5 +30,7 @@ mod sys;
 
 pub use judge::{Fault, HeldKey, Judge, NoMemory, Reason, State, StepError};
 pub use live::{window_flags, Body, Client, Live, LiveError, Panel, Received, Rect, Window};
-pub use message::{Action, Key, Message, Motion, Pointer, FLAG_CANCELED};
+pub use message::{
+    Action, Key, Message, Motion, Pointer, FLAG_CANCELED, FLAG_OBSCURED, FLAG_PARTLY_OBSCURED,
+};
 pub use program::{run, Ran, RunError};

@@ -5,6 +5,12 @@ use crate::sys;
 /// The flag of a `PointerUp`, and of a key that goes up, that is not meant as one.
 pub const FLAG_CANCELED: u32 = 0x20;
 
+/// The mark of a motion whose gesture has a finger that a window of another owner covers.
+pub const FLAG_OBSCURED: u32 = 0x1;
+
+/// The mark of a motion of a window that a window of another owner covers in another place.
+pub const FLAG_PARTLY_OBSCURED: u32 = 0x2;
+
 /// What a motion says, with MotionEvent's names and numbers.
 #[derive(Clone, Copy, Debug, PartialEq, Eq)]
 pub enum Action {
@@ -59,7 +65,7 @@ pub struct Motion<'a> {
     pub action: Action,
     /// For `PointerDown` and `PointerUp` the place in `pointers` of the one that goes down or up, and 0 for the others.
     pub index: u8,
-    /// 0 or [`FLAG_CANCELED`].
+    /// 0 or [`FLAG_CANCELED`], and the marks [`FLAG_OBSCURED`] and [`FLAG_PARTLY_OBSCURED`].
     pub flags: u32,
     /// All pointers that are down, the one that goes down or up included, with rising ids.
     pub pointers: &'a [Pointer],

@@ -35,11 +35,23 @@ function drawBar(context, frame, lane, row, bar, left, right, top) {
     context.stroke();
   }
   if (bar.canceled) { drawCross(context, color, right, middle); }
+  if (bar.obscured || bar.partly) { drawCover(context, box, bar.obscured); }
   if (!isThin && box.width > 8) {
     const ink = bar.canceled || bar.open || row.isPartner ? color : theme().panel;
     drawTicks(context, frame, row, bar, box, faint(ink, 0.85));
     drawKeyName(context, row, bar, box, ink);
   }
+}
+
+/** A line over a bar whose messages have marks: whole where a window of another owner obscured a finger, and else dashed. */
+function drawCover(context, { left, middle, width, height }, isWhole) {
+  context.beginPath();
+  context.setLineDash(isWhole ? [] : [3, 3]);
+  context.moveTo(left, middle - height / 2 - 1);
+  context.lineTo(left + width, middle - height / 2 - 1);
+  Object.assign(context, { strokeStyle: theme().ink, lineWidth: 1.5 });
+  context.stroke();
+  context.setLineDash([]);
 }
 
 /** A tick for each message of a bar; where they stand too close, a line along the bar. */

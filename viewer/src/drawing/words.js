@@ -52,7 +52,12 @@ function sayKey({ device, scan, code, meta, down, canceled, repeat }) {
   return [`Key ${scan}${name} of device ${device} ${what}${meta === 0 ? "" : `, with meta bits ${meta}`}.`];
 }
 
-function sayMotion({ device, action, index, canceled, pointers, origin }) {
+/** What the marks of a motion say. */
+function coverOf({ obscured, partly }) {
+  return [obscured ? " A window of another owner covers a finger." : "", partly ? " A window of another owner covers a part of this one." : ""];
+}
+
+function sayMotion({ device, action, index, canceled, pointers, origin, ...marks }) {
   const { id } = pointers[index];
   const at = placeOf(pointers[index], origin);
   const others = fingersIn(pointers.filter((pointer) => pointer.id !== id).map((pointer) => pointer.id));
@@ -66,7 +71,7 @@ function sayMotion({ device, action, index, canceled, pointers, origin }) {
     CANCEL: () => words`All is cancelled: ${places}.`,
     OUTSIDE: () => words`Finger ${id} went down outside the window, at ${at}.`,
   };
-  return [...say[action](), ` Device ${device}.`];
+  return [...say[action](), ` Device ${device}.`, ...coverOf(marks)];
 }
 
 /** What was lost, or nothing. */

@@ -5,7 +5,7 @@ function isPoint({ action, canceled }) { return action !== "MOVE" || canceled ==
 
 /** What two points of a kind say, each thing by the word with which compare names it where it differs. */
 const SAYS = {
-  motion: { device: ({ device }) => device, action: ({ action }) => action, index: ({ index }) => index, flags: ({ canceled }) => canceled === true, pointers: ({ pointers }) => pointers.map(({ id }) => id) },
+  motion: { device: ({ device }) => device, action: ({ action }) => action, index: ({ index }) => index, flags: ({ canceled, obscured, partly }) => [canceled === true, obscured === true, partly === true], pointers: ({ pointers }) => pointers.map(({ id }) => id) },
   key: { device: ({ device }) => device, scan: ({ scan }) => scan, code: ({ code }) => code, meta: ({ meta }) => meta, direction: ({ way }) => way.split(" ")[0], flags: ({ way }) => way === "UP canceled", repeat: ({ repeat }) => repeat },
   focus: { focus: ({ gained }) => gained },
 };

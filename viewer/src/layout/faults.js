@@ -2,7 +2,7 @@
 
 const FAULT_WORDS = {
   AlreadyDown: "it is down already", OnePointer: "it lists more than one finger", NothingDown: "no finger is down", LastPointer: "only one finger is down",
-  OtherPointers: "it lists other fingers than those that are down", MorePointers: "several fingers are down", Flags: "only a POINTER_UP is marked as canceled",
+  OtherPointers: "it lists other fingers than those that are down", MorePointers: "several fingers are down", Flags: "only a POINTER_UP is canceled, and an OUTSIDE has no mark",
   RepeatOfNothing: "the key is up, so nothing is repeated", RepeatOutOfTurn: "it is not the next repeat", KeyNotDown: "the key is up", RepeatOnUp: "an UP has no repeat",
   FocusTwice: "the window has, or has not, the focus already", StillDown: "it is down at the end of the stream",
 };

@@ -28,7 +28,7 @@ class BarMaker {
 
   constructor(messages) { messages.forEach((message, at) => this[message.kind](message, at)); }
 
-  motion({ device, action, index, canceled, pointers }, at) {
+  motion({ device, action, index, canceled, obscured, partly, pointers }, at) {
     if (action === "OUTSIDE") {
       this.outside.push({ marks: [at], open: false, canceled: false });
       return;
@@ -38,6 +38,8 @@ class BarMaker {
       if (!this.fingers.has(name)) { this.fingers.set(name, { device, id, bars: [] }); }
       const isOne = k === index;
       this.goOn(name, at, this.fingers.get(name).bars, { device, id }, action === "DOWN" || (action === "POINTER_DOWN" && isOne));
+      if (obscured) { this.open.get(name).obscured = true; }
+      if (partly) { this.open.get(name).partly = true; }
       if (action === "UP" || action === "CANCEL" || (action === "POINTER_UP" && isOne)) {
         this.close(name, action === "CANCEL" || canceled);
       }

@@ -20,6 +20,8 @@ const KINDS = {
   name: ["[!-~]{1,64}", String],
   action: [`(?:MOVE|DOWN|UP|CANCEL|OUTSIDE|POINTER_(?:DOWN|UP):${NUMBER})`, String],
   canceled: ["(?: canceled)?", (text) => text !== ""],
+  obscured: ["(?: obscured)?", (text) => text !== ""],
+  partly: ["(?: partly)?", (text) => text !== ""],
   pointers: [`(?: ${NUMBER}@${PLACE},${PLACE}){1,16}`, toPointers],
   way: ["(?:DOWN|UP|UP canceled)", String],
   bit: ["[01]", (digit) => digit === "1"],

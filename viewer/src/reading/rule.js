@@ -15,7 +15,7 @@ class StreamRule {
     return may;
   }
 
-  motion({ device, action, index, canceled, pointers }) {
+  motion({ device, action, index, canceled, obscured, partly, pointers }) {
     const down = this.down.get(device) || 0;
     const listed = pointers.reduce((bits, pointer) => bits | (1 << pointer.id), 0);
     const indexed = 1 << pointers[index].id;
@@ -31,7 +31,7 @@ class StreamRule {
     };
     const [may, after] = rules[action];
     this.down.set(device, after);
-    return may && (!canceled || action === "POINTER_UP");
+    return may && (!canceled || action === "POINTER_UP") && !((obscured || partly) && action === "OUTSIDE");
   }
 
   key({ device, scan, down, repeat }) {

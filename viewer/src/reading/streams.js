@@ -6,7 +6,7 @@ const CHANNEL = formOf("channel {id:channel} {name:name}");
 const END = formOf("end {id:channel} sent {sent:u64} received {received:u64} finished {finished:u64}");
 const NAMING = formOf("anr {moment:moment} {id:channel} {seq:u64}");
 const MESSAGES = {
-  motion: formOf("{seq:u64} {moment:moment} motion {device:device} {action:action}{canceled:canceled}{pointers:pointers}"),
+  motion: formOf("{seq:u64} {moment:moment} motion {device:device} {action:action}{canceled:canceled}{obscured:obscured}{partly:partly}{pointers:pointers}"),
   key: formOf("{seq:u64} {moment:moment} key {device:device} {scan:u16} {code:u16} {meta:u32} {way:way} {repeat:u32}"),
   focus: formOf("{seq:u64} {moment:moment} focus {gained:bit}"),
 };
