@@ -48,8 +48,8 @@
  *
  * Threads
  *
- * A handle belongs to one thread at a time, for the calls that take a const handle too. Different handles share nothing. The library starts no threads, and keeps
- * nothing between calls except what handles own.
+ * A handle belongs to one thread at a time, even during calls that take it as const. Different handles share nothing. The
+ * library starts no threads, and keeps nothing between calls except what handles own.
  *
  * Statuses
  *
@@ -72,8 +72,8 @@
  * INPUTFLINGER_OUT_OF_RANGE. No other struct ever changes.
  *
  * Times are microseconds of a clock of your own, at most 10^18. Each call that takes the time now accepts an earlier one
- * than the call before it: the latest time that was handed in counts. A call that is refused and changes nothing hands
- * in no time.
+ * than the call before it: the latest time that was handed in counts. The time of a call that is refused and changes
+ * nothing does not count.
  */
 #ifndef INPUTFLINGER_H
 #define INPUTFLINGER_H
@@ -195,6 +195,13 @@ enum inputflinger_action {
 /* The flag of a POINTER_UP or of a key's up that must not be acted on. */
 #define INPUTFLINGER_FLAG_CANCELED 0x20u
 
+/*
+ * The marks of any motion but OUTSIDE: a window of another owner lay over the window where a finger of the gesture went
+ * down, or lay over it elsewhere.
+ */
+#define INPUTFLINGER_FLAG_OBSCURED 0x1u
+#define INPUTFLINGER_FLAG_PARTLY_OBSCURED 0x2u
+
 /* The most pointers of a motion, and how many devices there are. */
 #define INPUTFLINGER_MAX_POINTERS 16
 #define INPUTFLINGER_MAX_DEVICES 8
@@ -237,9 +244,9 @@ struct inputflinger_message {
 
 /* Why a message is not allowed: the first reason for its kind that holds. */
 enum inputflinger_reason {
-	/* None of those below: no line of a stream file can say such a message, for example one with other flags. */
+	/* None of those below: no line of a stream file can say such a message, for example a key with other flags. */
 	INPUTFLINGER_REASON_NONE = 0,
-	/* A motion other than POINTER_UP has the flag CANCELED. */
+	/* A motion other than POINTER_UP has a flag that is no mark, such as CANCELED, or an OUTSIDE has a mark. */
 	INPUTFLINGER_REASON_FLAGS = 1,
 	/* A DOWN while pointers are down, or a POINTER_DOWN of a pointer that is already down. */
 	INPUTFLINGER_REASON_ALREADY_DOWN = 2,
