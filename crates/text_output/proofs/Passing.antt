@@ -3,7 +3,9 @@ use Rattle.std.specs.Prelude.{Result, Ok, Err, OnOk, OnErr}
 use Rattle.std.proofs.Common.{◌≡◌, ◌∙◌, ◌<◌, ◌≤◌, ℕ, List, [], ◌∷◌, ◌++◌, length, take, drop, refl, sym, ap, subst, append_assoc, append-nil}
 use Rattle.std.proofs.lemmas.List.{take-append-drop}
 use Rattle.outside_io.specs.Trace.{Write, Writing}
-use Rattle.text_output.specs.Passing.{PassAll, Passes, StopsWithin, WritesAll, WritesPiece, WritesUpTo}
+use Rattle.text_pieces.specs.Long.{AreLong}
+use Rattle.text_pieces.proofs.Longer.{long_front}
+use Rattle.text_output.specs.Passing.{PassAll, Passes, StopsPiece, StopsText, StopsWithin, WritesAll, WritesPiece, WritesText, WritesUpTo}
 use Rattle.text_output.specs.Together.{together}
 
 -- what holds if a call ended in this way
@@ -123,8 +125,20 @@ one_write before now bytes n some fits is =
 -- one write that failed, which was handed all that was left of a piece
 pub one_failed : (before mid now : Writing) (piece left : List ℕ) → WritesPiece before mid piece left → 0 < length left
     → now ≡ record { took = mid.took ++ take 0 left; writes = mid.writes ++ record { handed = left; count = 0 } ∷ [] }
-    → StopsWithin before now piece
+    → StopsPiece before now piece
 one_failed before mid now piece left begins some is =
+    record {
+      rest = left;
+      until = mid;
+      begins = begins;
+      some = some;
+      took = ap (λ (w : Writing). w.took) is ∙ append-nil mid.took;
+      writes = ap (λ (w : Writing). w.writes) is;
+    }
+
+-- a text of one piece
+pub piece_stops : (before now : Writing) (piece : List ℕ) → StopsPiece before now piece → StopsWithin before now piece
+piece_stops before now piece s =
     record {
       left = piece;
       mid = before;
@@ -132,12 +146,7 @@ one_failed before mid now piece left begins some is =
       piece = piece;
       behind = [];
       parts = sym (append-nil piece);
-      rest = left;
-      until = mid;
-      begins = begins;
-      some = some;
-      took = ap (λ (w : Writing). w.took) is ∙ append-nil mid.took;
-      writes = ap (λ (w : Writing). w.writes) is;
+      stops = s;
     }
 
 -- a failure within what is left, and within a text with more behind it
@@ -150,12 +159,7 @@ stops_on before mid now text rest p s =
       piece = s.piece;
       behind = s.behind;
       parts = s.parts;
-      rest = s.rest;
-      until = s.until;
-      begins = s.begins;
-      some = s.some;
-      took = s.took;
-      writes = s.writes;
+      stops = s.stops;
     }
 
 pub stops_more : (before now : Writing) (text rest : List ℕ) → StopsWithin before now text → StopsWithin before now (text ++ rest)
@@ -167,12 +171,7 @@ stops_more before now text rest s =
       piece = s.piece;
       behind = s.behind ++ rest;
       parts = ap (λ (xs : List ℕ). xs ++ rest) s.parts ∙ append_assoc s.piece s.behind rest;
-      rest = s.rest;
-      until = s.until;
-      begins = s.begins;
-      some = s.some;
-      took = s.took;
-      writes = s.writes;
+      stops = s.stops;
     }
 
 -- what the sink took of a text that was written whole
@@ -183,11 +182,71 @@ took_all before now text w =
 -- what it took where a write failed is a front part
 pub took_front : (before now : Writing) (text : List ℕ) → StopsWithin before now text → (taken : List ℕ) × (rest : List ℕ) × (text ≡ taken ++ rest) × (now.took ≡ before.took ++ taken)
 took_front before now text s =
-    let whole = together s.goes.pieces in (
-      whole ++ s.begins.taken,
-      s.rest ++ s.behind,
+    let whole = together s.goes.pieces in
+    let last = s.stops in (
+      whole ++ last.begins.taken,
+      last.rest ++ s.behind,
       s.goes.parts
-          ∙ ap (λ (xs : List ℕ). whole ++ xs) (s.parts ∙ ap (λ (xs : List ℕ). xs ++ s.behind) s.begins.parts ∙ append_assoc s.begins.taken s.rest s.behind)
-          ∙ sym (append_assoc whole s.begins.taken (s.rest ++ s.behind)),
-      s.took ∙ s.begins.took ∙ ap (λ (xs : List ℕ). xs ++ s.begins.taken) s.goes.took ∙ append_assoc before.took whole s.begins.taken,
+          ∙ ap (λ (xs : List ℕ). whole ++ xs) (s.parts ∙ ap (λ (xs : List ℕ). xs ++ s.behind) last.begins.parts ∙ append_assoc last.begins.taken last.rest s.behind)
+          ∙ sym (append_assoc whole last.begins.taken (last.rest ++ s.behind)),
+      last.took ∙ last.begins.took ∙ ap (λ (xs : List ℕ). xs ++ last.begins.taken) s.goes.took ∙ append_assoc before.took whole last.begins.taken,
     )
+
+-- a text was written up to these bytes, in pieces before the others of all
+pub record WroteFirst (before now : Writing) (text left : List ℕ) (others all : List (List ℕ)) : Type 0 where
+  pub written : WritesUpTo before now text left
+  pub are : written.pieces ++ others ≡ all
+
+pub first_none : (w : Writing) (text left : List ℕ) (others all : List (List ℕ)) → text ≡ left → others ≡ all → WroteFirst w w text left others all
+unfolding none_written
+first_none w text left others all is are = record { written = none_written w text left is; are = are }
+
+-- what is left and the other pieces, written out
+pub first_as : (before now : Writing) (text left left_now : List ℕ) (others others_now all : List (List ℕ)) → left ≡ left_now → others ≡ others_now
+    → WroteFirst before now text left others all → WroteFirst before now text left_now others_now all
+first_as before now text left left_now others others_now all e f first =
+    subst (λ (xs : List ℕ). WroteFirst before now text xs others_now all) e (subst (λ (ps : List (List ℕ)). WroteFirst before now text left ps all) f first)
+
+-- one piece more
+pub first_more : (before mid now : Writing) (text piece left : List ℕ) (others all : List (List ℕ)) → WroteFirst before mid text (piece ++ left) (piece ∷ others) all
+    → WritesPiece mid now piece [] → WroteFirst before now text left others all
+unfolding written_on written_more piece_written
+first_more before mid now text piece left others all first wrote =
+    record {
+      written = written_on before mid now text (piece ++ left) left first.written (written_more mid now piece [] left (piece_written mid now piece wrote));
+      are = append_assoc first.written.pieces (piece ∷ []) others ∙ first.are;
+    }
+
+-- the last piece
+pub text_written : (before mid now : Writing) (text last : List ℕ) (all : List (List ℕ)) → AreLong (all ++ last ∷ []) → WroteFirst before mid text last [] all
+    → WritesPiece mid now last [] → WritesText before now text
+unfolding written_on piece_written
+text_written before mid now text last all long first wrote =
+    record {
+      whole = written_on before mid now text last [] first.written (piece_written mid now last wrote);
+      long = subst (λ (ps : List (List ℕ)). AreLong (ps ++ last ∷ [])) (sym first.are ∙ append-nil first.written.pieces) long;
+    }
+
+-- a write of the last piece failed
+pub last_stops : (before mid now : Writing) (text last : List ℕ) (all : List (List ℕ)) → AreLong (all ++ last ∷ []) → WroteFirst before mid text last [] all
+    → StopsPiece mid now last → StopsText before now text
+unfolding stops_on piece_stops written_on none_written
+last_stops before mid now text last all long first stops =
+    record {
+      within = stops_on before mid now text last first.written (piece_stops mid now last stops);
+      long = subst (λ (ps : List (List ℕ)). AreLong (ps ++ last ∷ [])) (sym first.are) long;
+    }
+
+-- a write of a piece before the last one failed
+pub piece_stops_text : (before mid now : Writing) (text piece left last : List ℕ) (others all : List (List ℕ)) → AreLong (all ++ last ∷ [])
+    → WroteFirst before mid text (piece ++ left) (piece ∷ others) all → StopsPiece mid now piece → StopsText before now text
+unfolding stops_on stops_more piece_stops written_on written_more none_written
+piece_stops_text before mid now text piece left last others all long first stops =
+    let own : List (List ℕ) = first.written.pieces in
+    let split : all ++ last ∷ [] ≡ (own ++ piece ∷ []) ++ (others ++ last ∷ []) =
+    ap (λ (ps : List (List ℕ)). ps ++ last ∷ []) (sym first.are ∙ sym (append_assoc own (piece ∷ []) others)) ∙ append_assoc (own ++ piece ∷ []) others (last ∷ []) in
+    record {
+      within = stops_on before mid now text (piece ++ left) first.written (stops_more mid now piece left (piece_stops mid now piece stops));
+      long = subst (λ (ps : List (List ℕ)). AreLong (ps ++ piece ∷ [])) (sym (append-nil own))
+          (long_front (own ++ piece ∷ []) (others ++ last ∷ []) (subst AreLong split long));
+    }

@@ -20,6 +20,15 @@ pub pieces_left : (ps : List (Vec ℕ Global)) (last : List ℕ) (i : ℕ) (p : 
 pieces_left ps last i p within is =
     ap (λ qs. joined qs ++ last) (next_of_drop ps i p within is) ∙ append_assoc p.items (joined (drop (i + 1) ps)) last
 
+-- the bytes of each piece
+abbrev pub items_of : List (Vec ℕ Global) → List (List ℕ)
+items_of ps = map (λ (p : Vec ℕ Global). p.items) ps
+
+-- the next piece, and the others, each by itself
+pub items_left : (ps : List (Vec ℕ Global)) (i : ℕ) (p : Vec ℕ Global) → i < length ps → p ≡ get_or ps i p
+    → items_of (drop i ps) ≡ p.items ∷ items_of (drop (i + 1) ps)
+items_left ps i p within is = ap items_of (next_of_drop ps i p within is)
+
 -- the next part, and the others
 abbrev pub parts_of : List (Bor (List ℕ)) → List ℕ
 parts_of ps = together (map (λ (p : Bor (List ℕ)). p.now) ps)

@@ -2,6 +2,7 @@
 use Rattle.std.specs.Prelude.{◌≡◌, ◌<◌, ◌≤◌, ℕ, List, [], ◌∷◌, ◌++◌, length, drop, ◌⊎◌}
 use Rattle.outside_io.specs.Trace.{Write, Writing}
 use Rattle.outside_io.specs.Outside.{Rose}
+use Rattle.text_pieces.specs.Long.{AreLong}
 use Rattle.text_output.specs.Together.{together}
 
 -- Writes of a piece, in order: each is handed all that remains of it and takes some of that, from the front. What
@@ -25,6 +26,15 @@ pub record WritesPiece (before now : Writing) (piece left : List ℕ) : Type 0 w
   pub writes : now.writes ≡ before.writes ++ asked
   pub passes : Passes piece asked left
 
+-- A write of a piece failed, and none followed it: it was handed all that remained, and took nothing.
+pub record StopsPiece (before now : Writing) (piece : List ℕ) : Type 0 where
+  pub rest : List ℕ
+  pub until : Writing
+  pub begins : WritesPiece before until piece rest
+  pub some : 0 < length rest
+  pub took : now.took ≡ until.took
+  pub writes : now.writes ≡ until.writes ++ record { handed = rest; count = 0 } ∷ []
+
 -- a text was written piece by piece, up to these bytes, which remain of it
 pub record WritesUpTo (before now : Writing) (text left : List ℕ) : Type 0 where
   pub pieces : List (List ℕ)
@@ -38,22 +48,25 @@ pub record WritesUpTo (before now : Writing) (text left : List ℕ) : Type 0 whe
 abbrev pub WritesAll : Writing → Writing → List ℕ → Type 0
 WritesAll before now text = WritesUpTo before now text []
 
--- A write of the text failed, and none followed it: it was handed all that remained of a piece, and took nothing.
+-- A write of the text failed, and none followed it: it was one of a piece, behind pieces that were written whole.
 pub record StopsWithin (before now : Writing) (text : List ℕ) : Type 0 where
-  -- the pieces before that one
   pub left : List ℕ
   pub mid : Writing
   pub goes : WritesUpTo before mid text left
-  -- that one, up to the write
   pub piece : List ℕ
   pub behind : List ℕ
   pub parts : left ≡ piece ++ behind
-  pub rest : List ℕ
-  pub until : Writing
-  pub begins : WritesPiece mid until piece rest
-  pub some : 0 < length rest
-  pub took : now.took ≡ until.took
-  pub writes : now.writes ≡ until.writes ++ record { handed = rest; count = 0 } ∷ []
+  pub stops : StopsPiece mid now piece
+
+-- the whole text was written, in few pieces: any two neighbouring ones have more than 64 KiB together
+pub record WritesText (before now : Writing) (text : List ℕ) : Type 0 where
+  pub whole : WritesAll before now text
+  pub long : AreLong whole.pieces
+
+-- A write of the text failed, and none followed it. The pieces up to that one are few: any two neighbouring ones have more than 64 KiB together.
+pub record StopsText (before now : Writing) (text : List ℕ) : Type 0 where
+  pub within : StopsWithin before now text
+  pub long : AreLong (within.goes.pieces ++ within.piece ∷ [])
 
 -- a line is printed: the sink takes it, or has a fault and takes the front of it
 abbrev pub Tells : ℕ → ℕ → Writing → Writing → List ℕ → Type 0

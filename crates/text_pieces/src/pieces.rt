@@ -1,6 +1,7 @@
 //! The pieces of a text.
-ghost use Rattle.std.specs.Prelude.{◌≡◌, ◌++◌, [], OnOk, OnErr};
+ghost use Rattle.std.specs.Prelude.{◌≡◌, ◌+◌, ◌<◌, ◌++◌, [], length, OnOk, OnErr};
 ghost use Rattle.text_pieces.specs.Joined.{joined};
+ghost use Rattle.text_pieces.specs.Long.{AreLong, pieces_of};
 
 use std::alloc::{AllocError, Global};
 use std::marker::Model;
@@ -9,7 +10,7 @@ use std::mem;
 /// The most bytes up to which two pieces are merged, 64 KiB: a short text is one piece.
 const SHORT: usize = 65536;
 
-/// A text in pieces. Contracts see its bytes.
+/// A text in pieces, of which any two neighbours have more than 64 KiB together. Contracts see its bytes.
 #[derive(Drop)]
 pub struct Pieces {
     before: Vec<Vec<u8>>,
@@ -19,10 +20,13 @@ pub struct Pieces {
 impl Model for Pieces {
     ghost use Rattle.std.specs.Prelude.{◌++◌, List, ℕ};
     ghost use Rattle.text_pieces.specs.Joined.{joined};
+    ghost use Rattle.text_pieces.specs.Long.{AreLong, pieces_of};
 
     ghost Value = { List ℕ };
 
     ghost view = { λ p. joined p.before.items ++ p.last.items };
+
+    ghost invariant = { λ p. AreLong (pieces_of p.before.items p.last.items) };
 }
 
 impl Pieces {
@@ -46,24 +50,15 @@ impl Pieces {
         }
     }
 
-    /// Appends a piece. If memory runs out, the text is as before.
+    /// Appends a piece: behind the last one, if the two are short together. If memory runs out, the text is as before.
+    #[tactic(auto, using(crate::proofs::OneMore::joined_more, crate::proofs::Longer::long_more, crate::proofs::Longer::long_grown))]
     pub fn push(&mut self, piece: Vec<u8>) -> Result<(), AllocError>
         ensures ok { OnOk result (self.new ≡ self.old ++ piece.items) }
         ensures err { OnErr result (self.new ≡ self.old) }
     {
         if self.last.len() + piece.len() <= SHORT {
-            self.last.extend_from_slice(&piece)
-        } else {
-            self.begin(piece)
+            return self.last.extend_from_slice(&piece);
         }
-    }
-
-    /// Appends an owned piece.
-    #[tactic(auto, using(crate::proofs::OneMore::joined_more))]
-    fn begin(&mut self, piece: Vec<u8>) -> Result<(), AllocError>
-        ensures ok { OnOk result (self.new ≡ self.old ++ piece.items) }
-        ensures err { OnErr result (self.new ≡ self.old) }
-    {
         self.before.reserve(1)?;
         let last = mem::replace(&mut self.last, piece);
         self.before.push(last)?;
@@ -72,7 +67,8 @@ impl Pieces {
 
     /// The pieces before the last one, in their order, and the last one.
     pub fn parts(&self) -> (&[Vec<u8>], &[u8])
-        ensures { joined result.0.now ++ result.1.now ≡ self.now }
+        ensures joined { joined result.0.now ++ result.1.now ≡ self.now }
+        ensures long { AreLong (pieces_of result.0.now result.1.now) }
     {
         (&self.before, &self.last)
     }
