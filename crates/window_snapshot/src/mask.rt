@@ -16,15 +16,22 @@ pub fn mask_has(mask: u64, channel: u32) -> bool
     is_channel(channel) && (mask >> (channel - 1)) & 1 == 1
 }
 
+/// The bit of a channel, or 0 for a number outside 1 to 64.
+fn bit_of(channel: u32) -> u64
+    ensures { result ≡ mask_with 0 channel }
+{
+    if is_channel(channel) {
+        1 << (channel - 1)
+    } else {
+        0
+    }
+}
+
 /// The mask with the channel in it. A number outside 1 to 64 leaves it as it is.
 pub fn mask_with(mask: u64, channel: u32) -> u64
     ensures { result ≡ mask_with mask channel }
 {
-    if is_channel(channel) {
-        mask | 1 << (channel - 1)
-    } else {
-        mask
-    }
+    mask | bit_of(channel)
 }
 
 /// The mask without the channels of another one.
