@@ -1,6 +1,7 @@
 //! `batch`: the batches that an application receives from a stream file, frame by frame.
 ghost use Rattle.std.specs.Prelude.{◌≡◌, ◌≤◌, IsTrue, None, Ok, Err, IfOk, IfErr};
 ghost use Rattle.command_words.specs.Command.{batch};
+ghost use Rattle.command_files.specs.Keeping.{KeepsFiles};
 ghost use Rattle.command_files.specs.Refusing.{RefusesSo};
 ghost use Rattle.command_answers.specs.Batch.{BatchAnswers, refusal_of_file};
 ghost use Rattle.command_answers.specs.Program.{Answers, RefusesCommand};
@@ -50,10 +51,7 @@ pub fn answer_batch<F: Files>(
         (batch name.now frame) (Ok text)) }
     ensures err { IfErr result (RefusesCommand (F.entries files.old) (F.readings files.old) (F.readings files.new)
         (batch name.now frame) (F.faults files.old) (F.faults files.new)) }
-    ensures later { F.faults files.old ≤ F.faults files.new }
-    ensures free { F.lent files.new ≡ None }
-    ensures entries { F.entries files.new ≡ F.entries files.old }
-    ensures names { F.lends files.new ≡ F.lends files.old }
+    ensures files { KeepsFiles F.Files files.old files.new }
 {
     let bytes = read_stream(alloc, files, name, Input::Stream)?;
     batches_of(alloc, &bytes, frame)

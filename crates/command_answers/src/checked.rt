@@ -8,6 +8,7 @@ ghost use Rattle.session_plan.specs.Valid.{IsPlan};
 ghost use Rattle.command_words.specs.Command.{check};
 ghost use Rattle.command_words.specs.CommandView.{recorded_view};
 ghost use Rattle.command_files.specs.Inputs.{AreAccepted, IsAccepted};
+ghost use Rattle.command_files.specs.Keeping.{KeepsFiles};
 ghost use Rattle.command_answers.specs.Program.{Answers, RefusesCommand};
 ghost use Rattle.session_plan.specs.View.{plan_view};
 ghost use Rattle.command_answers.specs.Plan.{IsPlanned};
@@ -107,10 +108,7 @@ pub fn answer_check<F: Files>(
         (check (recorded_view names.entry) order.now) (Ok text)) }
     ensures err { IfErr result (RefusesCommand (F.entries files.old) (F.readings files.old) (F.readings files.new)
         (check (recorded_view names.entry) order.now) (F.faults files.old) (F.faults files.new)) }
-    ensures later { F.faults files.old ≤ F.faults files.new }
-    ensures free { F.lent files.new ≡ None }
-    ensures entries { F.entries files.new ≡ F.entries files.old }
-    ensures names { F.lends files.new ≡ F.lends files.old }
+    ensures files { KeepsFiles F.Files files.old files.new }
 {
     let session = read_session(alloc, files, names.session)?;
     let devices = numbered_devices(alloc, &session)?;

@@ -1,12 +1,12 @@
 //! `compare`: whether actual streams agree with expected ones, within tolerances of time and position, and by how much.
-ghost use Rattle.std.specs.Prelude.{◌≡◌, ◌≤◌, [], ◌∷◌, ⊤, IsTrue, None, Ok, Err, IfOk, IfErr};
+ghost use Rattle.std.specs.Prelude.{◌≡◌, [], ◌∷◌, ⊤, IsTrue, None, Ok, Err, IfOk, IfErr};
 ghost use Rattle.command_words.specs.Command.{compare};
 ghost use Rattle.compare_text.specs.Indexed.{file_sections};
 ghost use Rattle.command_files.specs.Inputs.{IsWant, sections_said, stream_limit};
 ghost use Rattle.command_files.specs.Judged.{by_log};
+ghost use Rattle.command_files.specs.Keeping.{KeepsFiles};
 ghost use Rattle.command_files.specs.Logged.{Logged, RefusesBy};
-ghost use Rattle.command_files.specs.Refused.{refused};
-ghost use Rattle.command_files.specs.RefusalView.{stream_line};
+ghost use Rattle.command_files.specs.Refused.{refused, stream_line};
 ghost use Rattle.command_files.specs.Refusing.{RefusesSo};
 ghost use Rattle.command_answers.specs.Compare.{GotAnswers, SameAnswers, refusal_of_compare};
 ghost use Rattle.command_answers.specs.Sides.{bad_line_of};
@@ -96,10 +96,7 @@ fn answer_got<F: Files>(
         (λ rs. GotAnswers name.now rule (by_log rs) want.now (Err x)))
         (Logged (F.entries files.old) (F.readings files.old) (F.readings files.new)
         ((name.now, stream_limit) ∷ []) (λ rs. ⊤)) (F.faults files.old) (F.faults files.new)) }
-    ensures later { F.faults files.old ≤ F.faults files.new }
-    ensures free { F.lent files.new ≡ None }
-    ensures entries { F.entries files.new ≡ F.entries files.old }
-    ensures names { F.lends files.new ≡ F.lends files.old }
+    ensures files { KeepsFiles F.Files files.old files.new }
 {
     let bytes = read_stream(alloc, files, name, Input::Got)?;
     let got = sections_in(alloc, &bytes, Side::Got)?;
@@ -123,10 +120,7 @@ pub fn answer_compare<F: Files>(
     ensures err { IfErr result (RefusesCommand (F.entries files.old) (F.readings files.old) (F.readings files.new)
         (compare want.now got.now rule.tolerance.us rule.tolerance.pixels rule.want_channel rule.got_channel
         rule.each_move) (F.faults files.old) (F.faults files.new)) }
-    ensures later { F.faults files.old ≤ F.faults files.new }
-    ensures free { F.lent files.new ≡ None }
-    ensures entries { F.entries files.new ≡ F.entries files.old }
-    ensures names { F.lends files.new ≡ F.lends files.old }
+    ensures files { KeepsFiles F.Files files.old files.new }
 {
     let bytes = read_stream(alloc, files, want, Input::Want)?;
     let sections = sections_in(alloc, &bytes, Side::Want)?;

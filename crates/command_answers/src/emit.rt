@@ -2,6 +2,7 @@
 ghost use Rattle.std.specs.Prelude.{◌≡◌, ◌≤◌, IsTrue, None, Ok, Err, IfOk, IfErr, length};
 ghost use Rattle.command_words.specs.Command.{emit};
 ghost use Rattle.emit_text.specs.Emitted.{IsNotSpent};
+ghost use Rattle.command_files.specs.Keeping.{KeepsFiles};
 ghost use Rattle.command_files.specs.Refusing.{RefusesSo};
 ghost use Rattle.command_answers.specs.Emit.{EmitAnswers, refusal_of_emit};
 ghost use Rattle.command_answers.specs.Program.{Answers, RefusesCommand};
@@ -58,10 +59,7 @@ pub fn answer_emit<F: Files>(
         (emit name.now channel device) (Ok text)) }
     ensures err { IfErr result (RefusesCommand (F.entries files.old) (F.readings files.old) (F.readings files.new)
         (emit name.now channel device) (F.faults files.old) (F.faults files.new)) }
-    ensures later { F.faults files.old ≤ F.faults files.new }
-    ensures free { F.lent files.new ≡ None }
-    ensures entries { F.entries files.new ≡ F.entries files.old }
-    ensures names { F.lends files.new ≡ F.lends files.old }
+    ensures files { KeepsFiles F.Files files.old files.new }
 {
     let bytes = read_stream(alloc, files, name, Input::Stream)?;
     emitted(alloc, &bytes, channel, device)

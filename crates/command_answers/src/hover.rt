@@ -1,11 +1,12 @@
 //! `hover`: what the windows of a session are sent for a mouse.
-ghost use Rattle.std.specs.Prelude.{◌≡◌, ◌≤◌, IsTrue, None, Ok, IfOk, IfErr};
+ghost use Rattle.std.specs.Prelude.{◌≡◌, IsTrue, None, Ok, IfOk, IfErr};
 ghost use Rattle.command_words.specs.Command.{hover};
 ghost use Rattle.command_words.specs.CommandView.{recorded_view};
 ghost use Rattle.raw_events.specs.Line.{known};
 ghost use Rattle.session_plan.specs.Valid.{IsPlan};
 ghost use Rattle.session_plan.specs.View.{plan_view};
 ghost use Rattle.command_files.specs.Inputs.{IsAccepted};
+ghost use Rattle.command_files.specs.Keeping.{KeepsFiles};
 ghost use Rattle.command_answers.specs.Hover.{HoverAnswers, mouse_alone};
 ghost use Rattle.command_answers.specs.Program.{Answers, RefusesCommand};
 
@@ -53,10 +54,7 @@ pub fn answer_hover<F: Files>(
         (hover (recorded_view names.entry) mouse.now) (Ok text)) }
     ensures err { IfErr result (RefusesCommand (F.entries files.old) (F.readings files.old) (F.readings files.new)
         (hover (recorded_view names.entry) mouse.now) (F.faults files.old) (F.faults files.new)) }
-    ensures later { F.faults files.old ≤ F.faults files.new }
-    ensures free { F.lent files.new ≡ None }
-    ensures entries { F.entries files.new ≡ F.entries files.old }
-    ensures names { F.lends files.new ≡ F.lends files.old }
+    ensures files { KeepsFiles F.Files files.old files.new }
 {
     let session = read_session(alloc, files, names.session)?;
     let devices = mouse_alone(alloc, mouse)?;

@@ -1,5 +1,5 @@
 //! `inspect`: what a session and a recording contain; the recording is read in pieces.
-ghost use Rattle.std.specs.Prelude.{◌≡◌, ℕ, ◌≤◌, List, [], ◌∷◌, ⊤, IsTrue, None, Ok, Err, IfOk, IfErr};
+ghost use Rattle.std.specs.Prelude.{◌≡◌, ℕ, List, [], ◌∷◌, ⊤, IsTrue, None, Ok, Err, IfOk, IfErr};
 ghost use Rattle.command_words.specs.Command.{inspect};
 ghost use Rattle.command_words.specs.CommandView.{recorded_view};
 ghost use Rattle.recording_counts.specs.RecordingTally.{IsCounted};
@@ -10,6 +10,7 @@ ghost use Rattle.command_files.specs.Counting.{HasTaken};
 ghost use Rattle.command_files.specs.Devices.{devices_of};
 ghost use Rattle.command_files.specs.Inputs.{IsAccepted, lined_file, recording_limit};
 ghost use Rattle.command_files.specs.Judged.{Behind, by_log};
+ghost use Rattle.command_files.specs.Keeping.{KeepsFiles};
 ghost use Rattle.command_files.specs.Logged.{Logged, RefusesBy};
 ghost use Rattle.command_files.specs.Refusing.{RefusesSo};
 ghost use Rattle.command_answers.specs.Inspect.{CountsAnswer, InspectAnswers, session_view};
@@ -77,10 +78,7 @@ fn counted_text<F: Files>(
         (λ rs. CountsAnswer name.now (by_log rs) (session_view session.now) (Err x)))
         (Logged (F.entries files.old) (F.readings files.old) (F.readings files.new)
         ((name.now, recording_limit) ∷ []) (λ rs. ⊤)) (F.faults files.old) (F.faults files.new)) }
-    ensures later { F.faults files.old ≤ F.faults files.new }
-    ensures free { F.lent files.new ≡ None }
-    ensures entries { F.entries files.new ≡ F.entries files.old }
-    ensures names { F.lends files.new ≡ F.lends files.old }
+    ensures files { KeepsFiles F.Files files.old files.new }
 {
     let mut counting = Counting::new(alloc, &session.plan)?;
     match feed_file(alloc, files, name, RECORDING_LIMIT, &(), &mut counting) {
@@ -102,10 +100,7 @@ pub fn answer_inspect<F: Files>(
         (inspect (recorded_view names.entry)) (Ok text)) }
     ensures err { IfErr result (RefusesCommand (F.entries files.old) (F.readings files.old) (F.readings files.new)
         (inspect (recorded_view names.entry)) (F.faults files.old) (F.faults files.new)) }
-    ensures later { F.faults files.old ≤ F.faults files.new }
-    ensures free { F.lent files.new ≡ None }
-    ensures entries { F.entries files.new ≡ F.entries files.old }
-    ensures names { F.lends files.new ≡ F.lends files.old }
+    ensures files { KeepsFiles F.Files files.old files.new }
 {
     let session = read_keyed_session(alloc, files, names.session)?;
     counted_text(alloc, files, &session, names.events)

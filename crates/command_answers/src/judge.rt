@@ -1,6 +1,7 @@
 //! `judge`: whether each section of a stream file is whole, and if not, why.
-ghost use Rattle.std.specs.Prelude.{◌≡◌, ◌≤◌, IsTrue, None, Ok, Err, IfOk, IfErr};
+ghost use Rattle.std.specs.Prelude.{◌≡◌, IsTrue, None, Ok, Err, IfOk, IfErr};
 ghost use Rattle.command_words.specs.Command.{judge};
+ghost use Rattle.command_files.specs.Keeping.{KeepsFiles};
 ghost use Rattle.command_files.specs.Refusing.{RefusesSo};
 ghost use Rattle.command_answers.specs.Judge.{JudgeAnswers, refusal_of_judge};
 ghost use Rattle.command_answers.specs.Program.{Answers, RefusesCommand};
@@ -41,10 +42,7 @@ pub fn answer_judge<F: Files>(alloc: Global, files: &mut F, name: &str) -> Resul
         (judge name.now) (Ok text)) }
     ensures err { IfErr result (RefusesCommand (F.entries files.old) (F.readings files.old) (F.readings files.new)
         (judge name.now) (F.faults files.old) (F.faults files.new)) }
-    ensures later { F.faults files.old ≤ F.faults files.new }
-    ensures free { F.lent files.new ≡ None }
-    ensures entries { F.entries files.new ≡ F.entries files.old }
-    ensures names { F.lends files.new ≡ F.lends files.old }
+    ensures files { KeepsFiles F.Files files.old files.new }
 {
     let bytes = read_stream(alloc, files, name, Input::Stream)?;
     judged(alloc, &bytes)

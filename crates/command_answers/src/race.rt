@@ -10,6 +10,7 @@ ghost use Rattle.session_plan.specs.Valid.{IsPlan};
 ghost use Rattle.session_plan.specs.View.{channel_view, plan_view};
 ghost use Rattle.replay_actors.specs.Session.{channel_of, step_of};
 ghost use Rattle.command_files.specs.Inputs.{IsAccepted};
+ghost use Rattle.command_files.specs.Keeping.{KeepsFiles};
 ghost use Rattle.command_files.specs.Planned.{given};
 ghost use Rattle.command_answers.specs.Program.{Answers, RefusesCommand};
 ghost use Rattle.command_answers.specs.Race.{RaceAnswers, Races, finishes_from};
@@ -176,10 +177,7 @@ pub fn answer_race<R: Wait, F: Files, K: FnOnce(Start) -> Result<RaceEnd, AllocE
     ensures left { IfOk result (PrintsEnd (EndBy (λ s end. K.post runner s (Ok end)))) }
     ensures err { IfErr result (RefusesCommand (F.entries files.old) (F.readings files.old) (F.readings files.new)
         (race (recorded_view names.entry)) (F.faults files.old) (F.faults files.new)) }
-    ensures later { F.faults files.old ≤ F.faults files.new }
-    ensures free { F.lent files.new ≡ None }
-    ensures entries { F.entries files.new ≡ F.entries files.old }
-    ensures names { F.lends files.new ≡ F.lends files.old }
+    ensures files { KeepsFiles F.Files files.old files.new }
 {
     let session = read_session(alloc, files, names.session)?;
     let devices = numbered_devices(alloc, &session)?;

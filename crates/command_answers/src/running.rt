@@ -14,6 +14,7 @@ ghost use Rattle.schedule.specs.State.{CompletedWith, HasWith};
 ghost use Rattle.command_files.specs.Devices.{devices_of};
 ghost use Rattle.command_files.specs.Inputs.{IsAccepted, lines_judged, recording_limit};
 ghost use Rattle.command_files.specs.Judged.{Behind, by_log};
+ghost use Rattle.command_files.specs.Keeping.{KeepsFiles};
 ghost use Rattle.command_files.specs.Logged.{Logged, RefusesBy};
 ghost use Rattle.command_files.specs.Planned.{given, script_of};
 ghost use Rattle.command_files.specs.Recorded.{HasRead};
@@ -168,10 +169,7 @@ fn recording_text<F: Files>(
         ((name.now, recording_limit) ∷ []) (λ rs. RecordingSends sending name.now (by_log rs) p (Err x)))
         (Logged (F.entries files.old) (F.readings files.old) (F.readings files.new)
         ((name.now, recording_limit) ∷ []) (λ rs. ⊤)) (F.faults files.old) (F.faults files.new)) }
-    ensures later { F.faults files.old ≤ F.faults files.new }
-    ensures free { F.lent files.new ≡ None }
-    ensures entries { F.entries files.new ≡ F.entries files.old }
-    ensures names { F.lends files.new ≡ F.lends files.old }
+    ensures files { KeepsFiles F.Files files.old files.new }
 {
     let mut begun = begun;
     let fed = feed_file(
@@ -202,10 +200,7 @@ pub(crate) fn answer_run<F: Files>(
         (F.readings files.new) (recorded_view names.entry) (Ok text)) }
     ensures err { IfErr result (StopsOf sending (F.entries files.old) (F.readings files.old) (F.readings files.new)
         (recorded_view names.entry) (F.faults files.old) (F.faults files.new)) }
-    ensures later { F.faults files.old ≤ F.faults files.new }
-    ensures free { F.lent files.new ≡ None }
-    ensures entries { F.entries files.new ≡ F.entries files.old }
-    ensures names { F.lends files.new ≡ F.lends files.old }
+    ensures files { KeepsFiles F.Files files.old files.new }
 {
     let plan = read_session(alloc, files, names.session)?;
     let begun = begin(alloc, plan, sending.lines())?;

@@ -1,11 +1,12 @@
 //! `verify`: how many channels and messages a stream file has, if it is well-formed.
-ghost use Rattle.std.specs.Prelude.{◌≡◌, ◌+◌, ◌^◌, ◌<◌, ◌≤◌, List, ◌∷◌, Ok, Err, None, IsTrue, IfOk, IfErr, OnOk};
+ghost use Rattle.std.specs.Prelude.{◌≡◌, ◌+◌, ◌^◌, ◌<◌, List, ◌∷◌, Ok, Err, None, IsTrue, IfOk, IfErr, OnOk};
 ghost use Rattle.command_words.specs.Command.{verify};
 ghost use Rattle.command_answers.specs.Program.{Answers, RefusesCommand};
 ghost use Rattle.command_answers.specs.Verify.{StreamAnswers};
 ghost use Rattle.std.specs.Option.{option_or};
 ghost use Rattle.input_types.specs.declared.message.Message.{Message as Told};
 ghost use Rattle.command_answers.specs.Judging.{Knows, Judges, break_at};
+ghost use Rattle.command_files.specs.Keeping.{KeepsFiles};
 ghost use Rattle.command_files.specs.Refusing.{RefusesSo};
 ghost use Rattle.command_answers.specs.Verify.{said, verdict};
 
@@ -153,10 +154,7 @@ pub fn answer_verify<F: Files>(alloc: Global, files: &mut F, name: &str) -> Resu
         (verify name.now) (Ok text)) }
     ensures err { IfErr result (RefusesCommand (F.entries files.old) (F.readings files.old) (F.readings files.new)
         (verify name.now) (F.faults files.old) (F.faults files.new)) }
-    ensures later { F.faults files.old ≤ F.faults files.new }
-    ensures free { F.lent files.new ≡ None }
-    ensures entries { F.entries files.new ≡ F.entries files.old }
-    ensures names { F.lends files.new ≡ F.lends files.old }
+    ensures files { KeepsFiles F.Files files.old files.new }
 {
     let bytes = read_stream(alloc, files, name, Input::Stream)?;
     verdict_of(alloc, &bytes)

@@ -1,8 +1,9 @@
 //! `why`: the result of each call in the run of a session and a recording, and why.
-ghost use Rattle.std.specs.Prelude.{◌≡◌, ◌≤◌, IsTrue, None, Ok, IfOk, IfErr};
+ghost use Rattle.std.specs.Prelude.{◌≡◌, IsTrue, None, Ok, IfOk, IfErr};
 ghost use Rattle.command_words.specs.Command.{why};
 ghost use Rattle.command_words.specs.CommandView.{recorded_view};
 ghost use Rattle.command_files.specs.Inputs.{IsAccepted};
+ghost use Rattle.command_files.specs.Keeping.{KeepsFiles};
 ghost use Rattle.command_answers.specs.Program.{Answers, RefusesCommand};
 
 use crate::running::{Sending, answer_run};
@@ -25,10 +26,7 @@ pub fn answer_why<F: Files>(
         (why (recorded_view names.entry)) (Ok text)) }
     ensures err { IfErr result (RefusesCommand (F.entries files.old) (F.readings files.old) (F.readings files.new)
         (why (recorded_view names.entry)) (F.faults files.old) (F.faults files.new)) }
-    ensures later { F.faults files.old ≤ F.faults files.new }
-    ensures free { F.lent files.new ≡ None }
-    ensures entries { F.entries files.new ≡ F.entries files.old }
-    ensures names { F.lends files.new ≡ F.lends files.old }
+    ensures files { KeepsFiles F.Files files.old files.new }
 {
     answer_run(alloc, files, names, Sending::Causes)
 }

@@ -3,6 +3,7 @@ pub mod Counting
 pub mod Devices
 pub mod Inputs
 pub mod Judged
+pub mod Keeping
 pub mod Logged
 pub mod Planned
 pub mod ReadErrors

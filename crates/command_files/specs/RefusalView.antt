@@ -1,20 +1,13 @@
 -- How a refusal is reported to the user.
-use Rattle.std.specs.Prelude.{codes, ℕ, List, ◌++◌}
-use Rattle.std.specs.Fmt.{decimal}
-use Rattle.compare_text.specs.Lines.{refusal_line as compare_line}
-use Rattle.judge_text.specs.Lines.{refusal_line as judge_line}
+use Rattle.std.specs.Prelude.{codes, ℕ, List}
 use Rattle.session_plan.specs.ErrorLine.{error_line}
 use Rattle.command_files.specs.declared.refusal.Refusal.{Refusal}
 use Rattle.command_files.specs.declared.refusal.Refusal.TheVariants.{Session, Recording, Order, Stream, ReadFailed, NoMemory, TooLong}
 use Rattle.command_files.specs.declared.refusal.Input.{Input}
 use Rattle.command_files.specs.declared.refusal.Input.TheVariants as input
-use Rattle.command_files.specs.declared.refusal.OrderError.{OrderError}
-use Rattle.command_files.specs.declared.refusal.OrderError.TheVariants as order
-use Rattle.command_files.specs.declared.refusal.StreamError.{StreamError}
-use Rattle.command_files.specs.declared.refusal.StreamError.TheVariants as stream
 use Rattle.command_files.specs.declared.refusal.Subject.{Subject}
 use Rattle.command_files.specs.declared.refusal.Subject.TheVariants as subject
-use Rattle.command_files.specs.Refused.{Refused, refused, recording_line}
+use Rattle.command_files.specs.Refused.{Refused, order_line, read_words, recording_line, refused, stream_line, too_long_words}
 
 -- the status of a refusal
 abbrev pub status_of : Refusal → ℕ
@@ -25,23 +18,6 @@ status_of (Stream error) = 1
 status_of (ReadFailed file) = 4
 status_of NoMemory = 6
 status_of (TooLong what) = 7
-
--- the message for a refused order file
-abbrev pub order_line : OrderError → List ℕ
-order_line (order.BadLine n) = codes "order: BadLine " ++ decimal n
-order_line (order.NoStep n) = codes "order: NoStep " ++ decimal n
-
--- the message for a refused stream file
-abbrev pub stream_line : StreamError → List ℕ
-stream_line (stream.BadLine n) = codes "stream: BadLine " ++ decimal n
-stream_line (stream.NotWellFormed n) = codes "stream: NotWellFormed " ++ decimal n
-stream_line stream.NoChannel = codes "stream: NoChannel"
-stream_line (stream.TooLate n) = codes "stream: TooLate " ++ decimal n
-stream_line (stream.NotAssignable n) = codes "stream: NotAssignable " ++ decimal n
-stream_line (stream.NotWhole error) = judge_line error
-stream_line (stream.BadWant n) = codes "want: BadLine " ++ decimal n
-stream_line (stream.BadGot n) = codes "got: BadLine " ++ decimal n
-stream_line (stream.NotSame error) = compare_line error
 
 -- the word for what is longer than its limit
 abbrev pub subject_word : Subject → List ℕ
@@ -76,9 +52,9 @@ words_of (Session error) = error_line error
 words_of (Recording error) = recording_line error
 words_of (Order error) = order_line error
 words_of (Stream error) = stream_line error
-words_of (ReadFailed file) = input_word file ++ codes ": ReadFailed"
+words_of (ReadFailed file) = read_words (input_word file)
 words_of NoMemory = codes "no memory"
-words_of (TooLong what) = codes "too long: " ++ subject_word what
+words_of (TooLong what) = too_long_words (subject_word what)
 
 -- a refusal as its status and its line
 abbrev pub refusal_view : Refusal → Refused

@@ -9,6 +9,10 @@ use Rattle.judge_text.specs.declared.error.JudgeError.{JudgeError}
 use Rattle.judge_text.specs.Lines.{refusal_line as judge_line}
 use Rattle.session_plan.specs.Fault.{Fault}
 use Rattle.session_plan.specs.ErrorLine.{line_of}
+use Rattle.command_files.specs.declared.refusal.OrderError.{OrderError}
+use Rattle.command_files.specs.declared.refusal.OrderError.TheVariants as order
+use Rattle.command_files.specs.declared.refusal.StreamError.{StreamError}
+use Rattle.command_files.specs.declared.refusal.StreamError.TheVariants as stream
 
 -- a refusal as it is printed: a status, and a line with its newline
 pub record Refused : Type 0 where
@@ -34,54 +38,79 @@ recording_line lines.Memory = []
 abbrev pub recording_refused : LineError → Refused
 recording_refused error = refused 3 (recording_line error)
 
+-- the message for a refused order file
+abbrev pub order_line : OrderError → List ℕ
+order_line (order.BadLine n) = codes "order: BadLine " ++ decimal n
+order_line (order.NoStep n) = codes "order: NoStep " ++ decimal n
+
 -- a line of an order file is not of its grammar, or is missing
 abbrev pub bad_order_line : ℕ → Refused
-bad_order_line n = refused 1 (codes "order: BadLine " ++ decimal n)
+bad_order_line n = refused 1 (order_line (order.BadLine n))
 
 -- a line of an order file requests a step that does not exist
 abbrev pub no_step : ℕ → Refused
-no_step n = refused 1 (codes "order: NoStep " ++ decimal n)
+no_step n = refused 1 (order_line (order.NoStep n))
+
+-- the message for a refused stream file
+abbrev pub stream_line : StreamError → List ℕ
+stream_line (stream.BadLine n) = codes "stream: BadLine " ++ decimal n
+stream_line (stream.NotWellFormed n) = codes "stream: NotWellFormed " ++ decimal n
+stream_line stream.NoChannel = codes "stream: NoChannel"
+stream_line (stream.TooLate n) = codes "stream: TooLate " ++ decimal n
+stream_line (stream.NotAssignable n) = codes "stream: NotAssignable " ++ decimal n
+stream_line (stream.NotWhole error) = judge_line error
+stream_line (stream.BadWant n) = codes "want: BadLine " ++ decimal n
+stream_line (stream.BadGot n) = codes "got: BadLine " ++ decimal n
+stream_line (stream.NotSame error) = compare_line error
 
 -- a line of a stream file is not of its grammar
 abbrev pub bad_stream_line : ℕ → Refused
-bad_stream_line n = refused 1 (codes "stream: BadLine " ++ decimal n)
+bad_stream_line n = refused 1 (stream_line (stream.BadLine n))
 
 -- a message of a stream file may not come at its place
 abbrev pub not_well_formed : ℕ → Refused
-not_well_formed n = refused 1 (codes "stream: NotWellFormed " ++ decimal n)
+not_well_formed n = refused 1 (stream_line (stream.NotWellFormed n))
 
 -- a stream file has no section of the channel
 abbrev pub no_channel : Refused
-no_channel = refused 1 (codes "stream: NoChannel")
+no_channel = refused 1 (stream_line stream.NoChannel)
 
 -- a motion has a moment that no event of a recording has
 abbrev pub too_late : ℕ → Refused
-too_late n = refused 1 (codes "stream: TooLate " ++ decimal n)
+too_late n = refused 1 (stream_line (stream.TooLate n))
 
 -- a motion has a pointer with an id that cooking would not give it
 abbrev pub not_assignable : ℕ → Refused
-not_assignable n = refused 1 (codes "stream: NotAssignable " ++ decimal n)
+not_assignable n = refused 1 (stream_line (stream.NotAssignable n))
 
 -- a section of a stream file is not whole, or none has a message
 abbrev pub not_whole : JudgeError → Refused
-not_whole error = refused 1 (judge_line error)
+not_whole error = refused 1 (stream_line (stream.NotWhole error))
 
 -- a line of the expected streams does not follow the grammar of stream files
 abbrev pub bad_want_line : ℕ → Refused
-bad_want_line n = refused 1 (codes "want: BadLine " ++ decimal n)
+bad_want_line n = refused 1 (stream_line (stream.BadWant n))
 
 -- a line of the actual streams does not follow the grammar of stream files
 abbrev pub bad_got_line : ℕ → Refused
-bad_got_line n = refused 1 (codes "got: BadLine " ++ decimal n)
+bad_got_line n = refused 1 (stream_line (stream.BadGot n))
 
 -- the actual streams differ from the expected ones
 abbrev pub not_same : CompareError → Refused
-not_same error = refused 1 (compare_line error)
+not_same error = refused 1 (stream_line (stream.NotSame error))
+
+-- the message for a file that could not be opened or read
+abbrev pub read_words : List ℕ → List ℕ
+read_words file = file ++ codes ": ReadFailed"
 
 -- a file could not be opened or read
 abbrev pub read_failed : List ℕ → Refused
-read_failed file = refused 4 (file ++ codes ": ReadFailed")
+read_failed file = refused 4 (read_words file)
+
+-- the message for something longer than its limit
+abbrev pub too_long_words : List ℕ → List ℕ
+too_long_words what = codes "too long: " ++ what
 
 -- something is longer than its limit
 abbrev pub too_long : List ℕ → Refused
-too_long what = refused 7 (codes "too long: " ++ what)
+too_long what = refused 7 (too_long_words what)

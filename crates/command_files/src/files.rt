@@ -2,6 +2,7 @@
 ghost use Rattle.std.specs.Prelude.{◌≡◌, ◌+◌, ◌<◌, ◌≤◌, ◌^◌, [], IfOk, IfErr, OnOk, IsErrOf, IsTrue, None, length, vec_len};
 ghost use Rattle.outside_io.specs.Trace.{at_end, failed, going};
 ghost use Rattle.outside_io.specs.Outside.{Rose};
+ghost use Rattle.command_files.specs.Keeping.{KeepsFiles};
 ghost use Rattle.command_files.specs.Logged.{IsWhole};
 ghost use Rattle.command_files.specs.Reading.{GivesMore, GivesWith};
 ghost use Rattle.command_files.specs.declared.files.ReadError.TheVariants.{Failed as ReadFailed, Memory, TooLong};
@@ -194,10 +195,7 @@ pub fn feed_file<F: Files, T: Taker>(
         name.now limit (T.takes beside.now taker.old taker.new)) }
     ensures err { IfErr result (StopsReading (F.entries files.old) (F.readings files.old) (F.readings files.new)
         name.now limit (F.faults files.old) (F.faults files.new)) }
-    ensures later { F.faults files.old ≤ F.faults files.new }
-    ensures free { F.lent files.new ≡ None }
-    ensures entries { F.entries files.new ≡ F.entries files.old }
-    ensures names { F.lends files.new ≡ F.lends files.old }
+    ensures files { KeepsFiles F.Files files.old files.new }
 {
     let mut source = files.source(name)?;
     let fed = feed_all(alloc, &mut source, limit, beside, taker);
@@ -219,10 +217,7 @@ pub fn read_file<F: Files>(
         limit v.items) }
     ensures err { IfErr result (StopsReading (F.entries files.old) (F.readings files.old) (F.readings files.new)
         name.now limit (F.faults files.old) (F.faults files.new)) }
-    ensures later { F.faults files.old ≤ F.faults files.new }
-    ensures free { F.lent files.new ≡ None }
-    ensures entries { F.entries files.new ≡ F.entries files.old }
-    ensures names { F.lends files.new ≡ F.lends files.old }
+    ensures files { KeepsFiles F.Files files.old files.new }
 {
     let mut source = files.source(name)?;
     let bytes = read_all(alloc, &mut source, limit);

@@ -9,6 +9,7 @@ ghost use Rattle.stream_text.specs.OrderText.{order_of};
 ghost use Rattle.command_files.specs.Inputs.{events_file, lines_judged, order_file, order_lines, plan_judged};
 ghost use Rattle.command_files.specs.Inputs.{session_file, stream_kind};
 ghost use Rattle.command_files.specs.Judged.{IsJudged, judged};
+ghost use Rattle.command_files.specs.Keeping.{KeepsFiles};
 ghost use Rattle.command_files.specs.Logged.{IsRead, RefusesFile};
 ghost use Rattle.command_files.specs.ReadErrors.{refusal_of_read};
 ghost use Rattle.command_files.specs.RefusalView.{subject_of};
@@ -90,10 +91,7 @@ pub fn read_session<F: Files>(alloc: Global, files: &mut F, name: &str) -> Resul
     ensures valid { IfOk result IsPlan }
     ensures err { IfErr result (RefusesFile (F.entries files.old) (F.readings files.old) (F.readings files.new)
         name.now session_file (F.faults files.old) (F.faults files.new)) }
-    ensures later { F.faults files.old ≤ F.faults files.new }
-    ensures free { F.lent files.new ≡ None }
-    ensures entries { F.entries files.new ≡ F.entries files.old }
-    ensures names { F.lends files.new ≡ F.lends files.old }
+    ensures files { KeepsFiles F.Files files.old files.new }
 {
     match read_file(alloc, files, name, SESSION_LIMIT) {
         Ok(bytes) => plan_from(alloc, &bytes),
@@ -116,10 +114,7 @@ pub fn read_events<F: Files>(
         (judged (events_file (known devices.now))) (Ok events.items)) }
     ensures err { IfErr result (RefusesFile (F.entries files.old) (F.readings files.old) (F.readings files.new)
         name.now (events_file (known devices.now)) (F.faults files.old) (F.faults files.new)) }
-    ensures later { F.faults files.old ≤ F.faults files.new }
-    ensures free { F.lent files.new ≡ None }
-    ensures entries { F.entries files.new ≡ F.entries files.old }
-    ensures names { F.lends files.new ≡ F.lends files.old }
+    ensures files { KeepsFiles F.Files files.old files.new }
 {
     match read_file(alloc, files, name, RECORDING_LIMIT) {
         Ok(bytes) => events_in(alloc, devices, &bytes),
@@ -150,10 +145,7 @@ pub fn read_order<F: Files>(alloc: Global, files: &mut F, name: &str) -> Result<
         name.now order_file (Ok order)) }
     ensures err { IfErr result (RefusesFile (F.entries files.old) (F.readings files.old) (F.readings files.new)
         name.now order_file (F.faults files.old) (F.faults files.new)) }
-    ensures later { F.faults files.old ≤ F.faults files.new }
-    ensures free { F.lent files.new ≡ None }
-    ensures entries { F.entries files.new ≡ F.entries files.old }
-    ensures names { F.lends files.new ≡ F.lends files.old }
+    ensures files { KeepsFiles F.Files files.old files.new }
 {
     match read_file(alloc, files, name, ORDER_LIMIT) {
         Ok(bytes) => order_in(alloc, &bytes),
@@ -189,10 +181,7 @@ pub fn read_stream<F: Files>(
     ensures few { IfOk result (λ bytes. length bytes.items ≤ 67108864) }
     ensures err { IfErr result (RefusesFile (F.entries files.old) (F.readings files.old) (F.readings files.new)
         name.now (stream_kind file) (F.faults files.old) (F.faults files.new)) }
-    ensures later { F.faults files.old ≤ F.faults files.new }
-    ensures free { F.lent files.new ≡ None }
-    ensures entries { F.entries files.new ≡ F.entries files.old }
-    ensures names { F.lends files.new ≡ F.lends files.old }
+    ensures files { KeepsFiles F.Files files.old files.new }
 {
     match read_file(alloc, files, name, STREAM_LIMIT) {
         Ok(bytes) => Ok(bytes),

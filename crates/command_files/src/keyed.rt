@@ -1,11 +1,12 @@
 //! A session with the keys that nothing reads.
-ghost use Rattle.std.specs.Prelude.{◌≡◌, ◌≤◌, IsTrue, None, Ok, Err, IfOk, IfErr};
+ghost use Rattle.std.specs.Prelude.{◌≡◌, IsTrue, None, Ok, Err, IfOk, IfErr};
 ghost use Rattle.session_plan.specs.Session.{session_of};
 ghost use Rattle.session_plan.specs.Valid.{IsPlan};
 ghost use Rattle.session_plan.specs.View.{plan_view};
 ghost use Rattle.unread_keys.specs.Session.{unread_text};
 ghost use Rattle.command_files.specs.Inputs.{keyed_file, plan_judged, session_file};
 ghost use Rattle.command_files.specs.Judged.{IsJudged, beside, judged};
+ghost use Rattle.command_files.specs.Keeping.{KeepsFiles};
 ghost use Rattle.command_files.specs.Logged.{IsRead, RefusesFile};
 ghost use Rattle.command_files.specs.Refusing.{RefusesSo};
 
@@ -54,10 +55,7 @@ pub fn read_keyed_session<F: Files>(
     ensures valid { IfOk result (λ s. IsPlan s.plan) }
     ensures err { IfErr result (RefusesFile (F.entries files.old) (F.readings files.old) (F.readings files.new)
         name.now keyed_file (F.faults files.old) (F.faults files.new)) }
-    ensures later { F.faults files.old ≤ F.faults files.new }
-    ensures free { F.lent files.new ≡ None }
-    ensures entries { F.entries files.new ≡ F.entries files.old }
-    ensures names { F.lends files.new ≡ F.lends files.old }
+    ensures files { KeepsFiles F.Files files.old files.new }
 {
     match read_file(alloc, files, name, SESSION_LIMIT) {
         Ok(bytes) => keyed_from(alloc, &bytes),

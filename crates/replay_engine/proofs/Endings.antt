@@ -1,7 +1,7 @@
 -- How a run ends, by the result of the command.
 use Rattle.std.proofs.Common.{◌≡◌, ◌≢◌, ◌∙◌, ℕ, List, codes, IsTrue, Ok, Err, refl, sym, subst, arith}
 use Rattle.outside_io.specs.Outside.{Rose}
-use Rattle.text_output.specs.Passing.{StopsWithin, WritesAll, Tells as TellsLine}
+use Rattle.text_output.specs.Passing.{StopsText, WritesText, Tells as TellsLine}
 use Rattle.command_words.specs.Forms.{form_of}
 use Rattle.command_files.specs.declared.refusal.Refusal.{Refusal}
 use Rattle.command_files.specs.declared.refusal.Refusal.TheVariants.{Session, Recording, Order, Stream, ReadFailed, NoMemory, TooLong}
@@ -23,7 +23,7 @@ comes_well q a sound c =
     logged_map _ _ _ _ (λ rs. IsAnswer (by_log rs) q.words a) NoneFailed (λ rs h. words_well q.words (form_of q.words) rs a sound h) c.0
 
 -- the whole text was written
-pub ends_whole : (q : Asked) (out err : SinkEnds) (text : List ℕ) → ComesTo q (Ok text) → WritesAll out.before out.now text → err.now ≡ err.before → Ends q out err 0
+pub ends_whole : (q : Asked) (out err : SinkEnds) (text : List ℕ) → ComesTo q (Ok text) → WritesText out.before out.now text → err.now ≡ err.before → Ends q out err 0
 ends_whole q out err text comes wrote silent =
     record {
       is = refl;
@@ -45,7 +45,7 @@ ends_whole q out err text comes wrote silent =
     }
 
 -- a write failed
-pub ends_front : (q : Asked) (out err : SinkEnds) (text : List ℕ) → ComesTo q (Ok text) → StopsWithin out.before out.now text → Rose out.faults_before out.faults_now
+pub ends_front : (q : Asked) (out err : SinkEnds) (text : List ℕ) → ComesTo q (Ok text) → StopsText out.before out.now text → Rose out.faults_before out.faults_now
     → TellsLine err.faults_before err.faults_now err.before err.now (codes "write failed\n") → Ends q out err 5
 ends_front q out err text comes stops rose line =
     record {

@@ -2,7 +2,7 @@
 use Rattle.std.specs.Prelude.{codes, ◌≡◌, ◌≢◌, ℕ, nat_eq, ◌||◌, Bool, List, [], Option, Some, None, Ok, Err, ⊤, IsTrue, ◌⊎◌}
 use Rattle.outside_io.specs.Trace.{Reading, Writing}
 use Rattle.outside_io.specs.Outside.{Entry, Rose}
-use Rattle.text_output.specs.Passing.{StopsWithin, WritesAll, Tells as TellsLine}
+use Rattle.text_output.specs.Passing.{StopsText, WritesText, Tells as TellsLine}
 use Rattle.command_words.specs.Command.{Command, replay, race, check, verify, work, batch, hover, emit, judge, compare, inspect, why, show}
 use Rattle.command_words.specs.Forms.{form_of}
 use Rattle.command_files.specs.Inputs.{AreAccepted, IsAccepted, IsWant}
@@ -63,13 +63,13 @@ ComesTo q a =
     ReadsInTurn q (λ readings. IsAnswer (by_log readings) q.words a)
     × (OfContents a → IfTold q.told (λ entries. IsAnswer (by_name entries) q.words a))
 
--- the program answers a text, and the output took it whole
+-- the program answers a text, and the output took it whole, in few pieces
 abbrev pub WroteAll : Asked → Writing → Writing → Type 0
-WroteAll q before now = (text : List ℕ) × ComesTo q (Ok text) × WritesAll before now text
+WroteAll q before now = (text : List ℕ) × ComesTo q (Ok text) × WritesText before now text
 
 -- the program answers a text, the output took the front of it, and a write failed
 abbrev pub WroteFront : Asked → Writing → Writing → Type 0
-WroteFront q before now = (text : List ℕ) × ComesTo q (Ok text) × StopsWithin before now text
+WroteFront q before now = (text : List ℕ) × ComesTo q (Ok text) × StopsText before now text
 
 -- the program answers a refusal with this status, of which this is so
 abbrev pub RefusedBy : Asked → ℕ → (List ℕ → Type 0) → Type 0

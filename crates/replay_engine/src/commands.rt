@@ -1,9 +1,10 @@
 //! The answer to a command that starts no threads.
-ghost use Rattle.std.specs.Prelude.{◌≡◌, ◌≤◌, None, Some, Ok, IfOk, IfErr};
+ghost use Rattle.std.specs.Prelude.{◌≡◌, None, Some, Ok, IfOk, IfErr};
 ghost use Rattle.command_words.specs.Command.{InRanges};
 ghost use Rattle.command_words.specs.CommandView.{alone_view};
 ghost use Rattle.command_answers.specs.Program.{Answers, RefusesCommand};
 ghost use Rattle.replay_engine.specs.Outcome.{LendsNames};
+ghost use Rattle.command_files.specs.Keeping.{KeepsFiles};
 
 use command_answers::{
     answer_batch, answer_check, answer_compare, answer_emit, answer_hover, answer_inspect,
@@ -29,10 +30,7 @@ pub fn answer_alone<F: Files>(
         (alone_view command.now) (Ok text)) }
     ensures err { IfErr result (RefusesCommand (F.entries files.old) (F.readings files.old) (F.readings files.new)
         (alone_view command.now) (F.faults files.old) (F.faults files.new)) }
-    ensures later { F.faults files.old ≤ F.faults files.new }
-    ensures free { F.lent files.new ≡ None }
-    ensures entries { F.entries files.new ≡ F.entries files.old }
-    ensures names { F.lends files.new ≡ F.lends files.old }
+    ensures files { KeepsFiles F.Files files.old files.new }
 {
     match command {
         Alone::Replay(recorded) => answer_replay(alloc, files, *recorded),

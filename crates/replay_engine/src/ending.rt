@@ -1,6 +1,6 @@
 //! How the program ends: what is written or printed, and the status.
 ghost use Rattle.std.specs.Prelude.{codes, ◌≡◌, ◌≢◌, ◌≤◌, ◌++◌, ℕ, List, Ok, map, string_bytes};
-ghost use Rattle.text_output.specs.Passing.{Tells, WritesAll};
+ghost use Rattle.text_output.specs.Passing.{Tells, WritesText};
 ghost use Rattle.command_words.specs.Fault.{words_line};
 ghost use Rattle.command_files.specs.RefusalView.{refusal_view, status_of};
 ghost use Rattle.replay_engine.specs.Outcome.{Asked, Ends, sink_ends};
@@ -91,7 +91,7 @@ pub fn end_answered<O: Sink, E: Sink>(
         (sink_ends (O.faults out.old) (O.faults out.new) (O.writing out.old) (O.writing out.new))
         (sink_ends (E.faults err.old) (E.faults err.new) (E.writing err.old) (E.writing err.new)) result }
     ensures whole { result ≡ 0
-        → (text : List ℕ) × (answer ≡ Ok text) × WritesAll (O.writing out.old) (O.writing out.new) text }
+        → (text : List ℕ) × (answer ≡ Ok text) × WritesText (O.writing out.old) (O.writing out.new) text }
     ensures no_usage { result ≢ 2 }
     ensures later { (O.faults out.old ≤ O.faults out.new) × (E.faults err.old ≤ E.faults err.new) }
 {

@@ -6,8 +6,8 @@ ghost use Rattle.compare_text.specs.Lines.{refusal_line as compare_line};
 ghost use Rattle.text_output.specs.Passing.{Tells};
 ghost use Rattle.command_words.specs.Fault.{fault_line};
 ghost use Rattle.command_words.specs.FaultView.{fault_view};
-ghost use Rattle.command_files.specs.Refused.{read_failed, recording_line, too_long};
-ghost use Rattle.command_files.specs.RefusalView.{input_word, order_line, stream_line, subject_word};
+ghost use Rattle.command_files.specs.Refused.{order_line, read_failed, recording_line, stream_line, too_long};
+ghost use Rattle.command_files.specs.RefusalView.{input_word, subject_word};
 
 use crate::differing::tell_differs;
 use crate::whole::tell_whole;
@@ -169,21 +169,41 @@ pub fn tell_stream<E: Sink>(err: &mut E, error: &StreamError)
     }
 }
 
+/// The word for what is longer than its limit.
+fn subject_word(what: Subject) -> &'static str
+    ensures { result.now ≡ subject_word what }
+{
+    match what {
+        Subject::Session => "session",
+        Subject::Recording => "recording",
+        Subject::Order => "order",
+        Subject::Steps => "steps",
+        Subject::Stream => "stream",
+        Subject::Run => "run",
+    }
+}
+
 /// Prints what is longer than its limit.
 pub fn tell_too_long<E: Sink>(err: &mut E, what: Subject)
     ensures line { Tells (E.faults err.old) (E.faults err.new) (E.writing err.old) (E.writing err.new)
         (too_long (subject_word what)).line }
     ensures later { E.faults err.old ≤ E.faults err.new }
 {
-    let line = match what {
-        Subject::Session => "too long: session\n",
-        Subject::Recording => "too long: recording\n",
-        Subject::Order => "too long: order\n",
-        Subject::Steps => "too long: steps\n",
-        Subject::Stream => "too long: stream\n",
-        Subject::Run => "too long: run\n",
-    };
-    tell(err, line);
+    tell_named(err, "too long: ", subject_word(what));
+}
+
+/// The word for a file.
+fn input_word(file: Input) -> &'static str
+    ensures { result.now ≡ input_word file }
+{
+    match file {
+        Input::Session => "session",
+        Input::Recording => "recording",
+        Input::Order => "order",
+        Input::Stream => "stream",
+        Input::Want => "want",
+        Input::Got => "got",
+    }
 }
 
 /// Prints which file could not be read.
@@ -192,13 +212,5 @@ pub fn tell_unread<E: Sink>(err: &mut E, file: Input)
         (read_failed (input_word file)).line }
     ensures later { E.faults err.old ≤ E.faults err.new }
 {
-    let line = match file {
-        Input::Session => "session: ReadFailed\n",
-        Input::Recording => "recording: ReadFailed\n",
-        Input::Order => "order: ReadFailed\n",
-        Input::Stream => "stream: ReadFailed\n",
-        Input::Want => "want: ReadFailed\n",
-        Input::Got => "got: ReadFailed\n",
-    };
-    tell(err, line);
+    tell_named(err, input_word(file), ": ReadFailed");
 }

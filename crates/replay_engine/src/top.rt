@@ -6,6 +6,7 @@ ghost use Rattle.command_answers.specs.Program.{IsAlone};
 ghost use Rattle.replay_actors.specs.Starts.{EndBy, Left, MayRun, RunsRaces};
 ghost use Rattle.replay_engine.specs.Outcome.{Ends, LendsNames, asked, sink_ends};
 ghost use Rattle.replay_engine.specs.Raced.{WroteEnd};
+ghost use Rattle.command_files.specs.Keeping.{KeepsFiles};
 
 use crate::commands::answer_alone;
 use crate::ending::{end_answered, end_words};
@@ -42,11 +43,8 @@ pub fn run_alone<F: Files, O: Sink, E: Sink>(
         (sink_ends (O.faults out.old) (O.faults out.new) (O.writing out.old) (O.writing out.new))
         (sink_ends (E.faults err.old) (E.faults err.new) (E.writing err.old) (E.writing err.new)) result }
     ensures words { (form_of (map string_bytes words.now) ≡ None) ↔ (result ≡ 2) }
-    ensures later { F.faults files.old ≤ F.faults files.new }
+    ensures files { KeepsFiles F.Files files.old files.new }
     ensures sinks_later { (O.faults out.old ≤ O.faults out.new) × (E.faults err.old ≤ E.faults err.new) }
-    ensures free { F.lent files.new ≡ None }
-    ensures entries { F.entries files.new ≡ F.entries files.old }
-    ensures names { F.lends files.new ≡ F.lends files.old }
 {
     match command_of(words) {
         Some(Command::Alone(command)) => {
@@ -93,11 +91,8 @@ pub fn run<R: Threads + Wait + Sync, F: Files, O: Sink, E: Sink, G: Gate + Sync>
         (sink_ends (O.faults out.old) (O.faults out.new) (O.writing out.old) (O.writing out.new))
         (sink_ends (E.faults err.old) (E.faults err.new) (E.writing err.old) (E.writing err.new)) result }
     ensures words { (form_of (map string_bytes words.now) ≡ None) ↔ (result ≡ 2) }
-    ensures later { F.faults files.old ≤ F.faults files.new }
+    ensures files { KeepsFiles F.Files files.old files.new }
     ensures sinks_later { (O.faults out.old ≤ O.faults out.new) × (E.faults err.old ≤ E.faults err.new) }
-    ensures free { F.lent files.new ≡ None }
-    ensures entries { F.entries files.new ≡ F.entries files.old }
-    ensures names { F.lends files.new ≡ F.lends files.old }
 {
     if is_alone(words) {
         return run_alone(alloc, words, files, out, err);
@@ -129,11 +124,8 @@ pub fn run_by<
     ensures raced { (files : Names) → form_of (map string_bytes words.now) ≡ Some (race files) → result ≡ 0
         → WroteEnd (EndBy (λ s end. K.post runner s (Ok end))) (O.writing out.old) (O.writing out.new) }
     ensures words { (form_of (map string_bytes words.now) ≡ None) ↔ (result ≡ 2) }
-    ensures later { F.faults files.old ≤ F.faults files.new }
+    ensures files { KeepsFiles F.Files files.old files.new }
     ensures sinks_later { (O.faults out.old ≤ O.faults out.new) × (E.faults err.old ≤ E.faults err.new) }
-    ensures free { F.lent files.new ≡ None }
-    ensures entries { F.entries files.new ≡ F.entries files.old }
-    ensures names { F.lends files.new ≡ F.lends files.old }
 {
     match command_of(words) {
         Some(Command::Race(names)) => {

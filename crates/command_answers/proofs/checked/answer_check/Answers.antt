@@ -53,10 +53,10 @@ returns-in_err-events-clause-err g c =
     let p = err_from_is_err_and c.from_residual-in_err-events.result c.from_residual-in_err-events.ensures.1 in
     let why : RefusesFile told mid now name (events_file devices) fm fn refusal =
     subst (λ (ds : Known). RefusesFile told mid now name (events_file ds) fm fn refusal) (ap known c.deref.ensures.value ∙ c.in_ok-devices.ensures)
-    (subst (λ (o : Option (List Entry)). RefusesFile o mid now name (events_file (known c.deref.result.now)) fm fn refusal) c.in_ok-session.ensures.entries
+    (subst (λ (o : Option (List Entry)). RefusesFile o mid now name (events_file (known c.deref.result.now)) fm fn refusal) c.in_ok-session.ensures.files.entries
     c.in_err-events.ensures.err) in
     rw (p.1, p.2)
-    (then_by told before mid now c.args.names.session.now session_file ((name, recording_limit) ∷ (c.args.order.now, order_limit) ∷ []) plan (CheckAnswers name c.args.order.now) fb fm fn refusal c.in_ok-session.ensures.later c.in_ok-session.ensures.ok
+    (then_by told before mid now c.args.names.session.now session_file ((name, recording_limit) ∷ (c.args.order.now, order_limit) ∷ []) plan (CheckAnswers name c.args.order.now) fb fm fn refusal c.in_ok-session.ensures.files.later c.in_ok-session.ensures.ok
     (file_by told mid now name (events_file devices) ((c.args.order.now, order_limit) ∷ []) (OrderedBy c.args.order.now plan) fm fn refusal why))
 
 pub read_order-requires-clause-lends : goal.read_order-requires-clause-lends
@@ -67,9 +67,9 @@ read_order-requires-clause-lends g c =
     let events : List RawEvent = c.in_ok-events.events.items in
     let second : IsJudged told name (events_judged (devices_of plan)) (Ok events) =
     subst (λ (ds : Known). IsJudged told name (events_judged ds) (Ok events)) (ap known c.deref.ensures.value ∙ c.in_ok-devices.ensures)
-    (subst (λ (o : Option (List Entry)). IsJudged o name (events_judged (known c.deref.result.now)) (Ok events)) c.in_ok-session.ensures.entries
+    (subst (λ (o : Option (List Entry)). IsJudged o name (events_judged (known c.deref.result.now)) (Ok events)) c.in_ok-session.ensures.files.entries
     c.in_ok-events.ensures.told) in
-    subst (λ (lends : List ℕ → Bool). IsTrue (lends c.args.order.now)) (sym (c.in_ok-events.ensures.names ∙ c.in_ok-session.ensures.names))
+    subst (λ (lends : List ℕ → Bool). IsTrue (lends c.args.order.now)) (sym (c.in_ok-events.ensures.files.names ∙ c.in_ok-session.ensures.files.names))
     (c.requires.order (plan, c.in_ok-session.ensures.told, (events, second)))
 
 pub returns-in_err-order-clause-err : goal.returns-in_err-order-clause-err
@@ -92,15 +92,15 @@ returns-in_err-order-clause-err g c =
     let events : List RawEvent = c.in_ok-events.events.items in
     let two : IsRead told mid more name (events_file devices) (Ok events) =
     (subst (λ (ds : Known). IsRead told mid more name (events_file ds) (Ok c.in_ok-events.events.items)) (ap known c.deref.ensures.value ∙ c.in_ok-devices.ensures)
-    (subst (λ (o : Option (List Entry)). IsRead o mid more name (events_file (known c.deref.result.now)) (Ok c.in_ok-events.events.items)) c.in_ok-session.ensures.entries
+    (subst (λ (o : Option (List Entry)). IsRead o mid more name (events_file (known c.deref.result.now)) (Ok c.in_ok-events.events.items)) c.in_ok-session.ensures.files.entries
     c.in_ok-events.ensures.ok)) in
     let refusal = c.in_err-order.field-0.0 in
     let why : RefusesFile told more now last order_file fe fn refusal =
-    subst (λ (o : Option (List Entry)). RefusesFile o more now last order_file fe fn refusal) (c.in_ok-events.ensures.entries ∙ c.in_ok-session.ensures.entries) c.in_err-order.ensures.err in
+    subst (λ (o : Option (List Entry)). RefusesFile o more now last order_file fe fn refusal) (c.in_ok-events.ensures.files.entries ∙ c.in_ok-session.ensures.files.entries) c.in_err-order.ensures.err in
     let p = err_from_is_err_and c.from_residual-in_err-order.result c.from_residual-in_err-order.ensures.1 in
     rw (p.1, p.2)
-    (then_by told before mid now session session_file files plan (CheckAnswers name last) fb fm fn refusal c.in_ok-session.ensures.later c.in_ok-session.ensures.ok
-    (then_by told mid more now name (events_file devices) ((last, order_limit) ∷ []) events (OrderedBy last plan) fm fe fn refusal c.in_ok-events.ensures.later two
+    (then_by told before mid now session session_file files plan (CheckAnswers name last) fb fm fn refusal c.in_ok-session.ensures.files.later c.in_ok-session.ensures.ok
+    (then_by told mid more now name (events_file devices) ((last, order_limit) ∷ []) events (OrderedBy last plan) fm fe fn refusal c.in_ok-events.ensures.files.later two
     (file_by told more now last order_file [] (λ rest lines. Ends (OrderAnswers plan events lines) rest) fe fn refusal why)))
 
 pub returns-clause-ok : goal.returns-clause-ok
@@ -125,10 +125,10 @@ returns-clause-ok g c =
     let two : IsRead told mid more name (events_file devices) (Ok events) =
     subst (λ (es : List RawEvent). IsRead told mid more name (events_file devices) (Ok es)) (sym c.deref-2.ensures.value)
     (subst (λ (ds : Known). IsRead told mid more name (events_file ds) (Ok c.in_ok-events.events.items)) (ap known c.deref.ensures.value ∙ c.in_ok-devices.ensures)
-    (subst (λ (o : Option (List Entry)). IsRead o mid more name (events_file (known c.deref.result.now)) (Ok c.in_ok-events.events.items)) c.in_ok-session.ensures.entries
+    (subst (λ (o : Option (List Entry)). IsRead o mid more name (events_file (known c.deref.result.now)) (Ok c.in_ok-events.events.items)) c.in_ok-session.ensures.files.entries
     c.in_ok-events.ensures.ok)) in
     let three : IsRead told more now last order_file (Ok lines) =
-    subst (λ (o : Option (List Entry)). IsRead o more now last order_file (Ok lines)) (c.in_ok-events.ensures.entries ∙ c.in_ok-session.ensures.entries) c.in_ok-order.ensures.ok in
+    subst (λ (o : Option (List Entry)). IsRead o more now last order_file (Ok lines)) (c.in_ok-events.ensures.files.entries ∙ c.in_ok-session.ensures.files.entries) c.in_ok-order.ensures.ok in
     if_ok_map c.order_text.result _ _
     (λ text h. file_goes told before mid now session session_file files plan (CheckAnswers name last) (Ok text) c.in_ok-session.ensures.ok
     (file_goes told mid more now name (events_file devices) ((last, order_limit) ∷ []) events (OrderedBy last plan) (Ok text) two
@@ -157,12 +157,12 @@ returns-clause-err g c =
     let two : IsRead told mid more name (events_file devices) (Ok events) =
     subst (λ (es : List RawEvent). IsRead told mid more name (events_file devices) (Ok es)) (sym c.deref-2.ensures.value)
     (subst (λ (ds : Known). IsRead told mid more name (events_file ds) (Ok c.in_ok-events.events.items)) (ap known c.deref.ensures.value ∙ c.in_ok-devices.ensures)
-    (subst (λ (o : Option (List Entry)). IsRead o mid more name (events_file (known c.deref.result.now)) (Ok c.in_ok-events.events.items)) c.in_ok-session.ensures.entries
+    (subst (λ (o : Option (List Entry)). IsRead o mid more name (events_file (known c.deref.result.now)) (Ok c.in_ok-events.events.items)) c.in_ok-session.ensures.files.entries
     c.in_ok-events.ensures.ok)) in
     let three : IsRead told more now last order_file (Ok lines) =
-    subst (λ (o : Option (List Entry)). IsRead o more now last order_file (Ok lines)) (c.in_ok-events.ensures.entries ∙ c.in_ok-session.ensures.entries) c.in_ok-order.ensures.ok in
+    subst (λ (o : Option (List Entry)). IsRead o more now last order_file (Ok lines)) (c.in_ok-events.ensures.files.entries ∙ c.in_ok-session.ensures.files.entries) c.in_ok-order.ensures.ok in
     if_err_map c.order_text.result _ _
-    (λ r h. then_by told before mid now session session_file files plan (CheckAnswers name last) fb fm fn r c.in_ok-session.ensures.later c.in_ok-session.ensures.ok
-    (then_by told mid more now name (events_file devices) ((last, order_limit) ∷ []) events (OrderedBy last plan) fm fe fn r c.in_ok-events.ensures.later two
+    (λ r h. then_by told before mid now session session_file files plan (CheckAnswers name last) fb fm fn r c.in_ok-session.ensures.files.later c.in_ok-session.ensures.ok
+    (then_by told mid more now name (events_file devices) ((last, order_limit) ∷ []) events (OrderedBy last plan) fm fe fn r c.in_ok-events.ensures.files.later two
     (last_by told more now last order_file lines (OrderAnswers plan events) fe fn r three h)))
     c.order_text.ensures.err

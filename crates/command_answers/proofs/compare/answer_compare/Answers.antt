@@ -64,7 +64,7 @@ returns-clause-ok g c =
     let one : IsRead told before mid want want_file (Ok sections) = whole_read told before mid want want_file bytes _ whole c.in_ok-sections.ensures.ok in
     if_ok_map c.answer_got.result _ _
     (λ text log. file_goes told before mid now want want_file ((got, stream_limit) ∷ []) sections (GotAnswers got c.args.rule) (Ok text) one
-    (subst (λ (o : Option (List Entry)). Logged o mid now ((got, stream_limit) ∷ []) (λ rs. GotAnswers got c.args.rule (by_log rs) sections (Ok text))) c.in_ok-bytes.ensures.entries log))
+    (subst (λ (o : Option (List Entry)). Logged o mid now ((got, stream_limit) ∷ []) (λ rs. GotAnswers got c.args.rule (by_log rs) sections (Ok text))) c.in_ok-bytes.ensures.files.entries log))
     c.answer_got.ensures.ok
 
 pub returns-clause-err : goal.returns-clause-err
@@ -85,7 +85,7 @@ returns-clause-err g c =
     let sections = c.in_ok-sections.sections in
     let one : IsRead told before mid want want_file (Ok sections) = whole_read told before mid want want_file bytes _ whole c.in_ok-sections.ensures.ok in
     if_err_map c.answer_got.result _ _
-    (λ r h. then_by told before mid now want want_file ((got, stream_limit) ∷ []) sections (GotAnswers got c.args.rule) fb fm fn r c.in_ok-bytes.ensures.later one
+    (λ r h. then_by told before mid now want want_file ((got, stream_limit) ∷ []) sections (GotAnswers got c.args.rule) fb fm fn r c.in_ok-bytes.ensures.files.later one
     (subst (λ (o : Option (List Entry)). RefusesBy (λ x. Logged o mid now ((got, stream_limit) ∷ []) (λ rs. GotAnswers got c.args.rule (by_log rs) sections (Err x)))
-    (Logged o mid now ((got, stream_limit) ∷ []) (λ rs. Unit {0})) fm fn r) c.in_ok-bytes.ensures.entries h))
+    (Logged o mid now ((got, stream_limit) ∷ []) (λ rs. Unit {0})) fm fn r) c.in_ok-bytes.ensures.files.entries h))
     c.answer_got.ensures.err

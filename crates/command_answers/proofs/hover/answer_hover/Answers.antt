@@ -51,10 +51,10 @@ returns-in_err-events-clause-err g c =
     let p = err_from_is_err_and c.from_residual-in_err-events.result c.from_residual-in_err-events.ensures.1 in
     let why : RefusesFile told mid now name (events_file devices) fm fn refusal =
     subst (λ (ds : Known). RefusesFile told mid now name (events_file ds) fm fn refusal) (ap known c.deref.ensures.value ∙ c.in_ok-devices.ensures)
-    (subst (λ (o : Option (List Entry)). RefusesFile o mid now name (events_file (known c.deref.result.now)) fm fn refusal) c.in_ok-session.ensures.entries
+    (subst (λ (o : Option (List Entry)). RefusesFile o mid now name (events_file (known c.deref.result.now)) fm fn refusal) c.in_ok-session.ensures.files.entries
     c.in_err-events.ensures.err) in
     rw (p.1, p.2)
-    (then_by told before mid now c.args.names.session.now session_file ((name, recording_limit) ∷ []) plan (MouseAnswers name c.args.mouse.now) fb fm fn refusal c.in_ok-session.ensures.later c.in_ok-session.ensures.ok
+    (then_by told before mid now c.args.names.session.now session_file ((name, recording_limit) ∷ []) plan (MouseAnswers name c.args.mouse.now) fb fm fn refusal c.in_ok-session.ensures.files.later c.in_ok-session.ensures.ok
     (file_by told mid now name (events_file devices) [] (λ rest given. Ends (HoverAnswers plan given) rest) fm fn refusal why))
 
 pub returns-in_err-hover_text-clause-err : goal.returns-in_err-hover_text-clause-err
@@ -66,7 +66,7 @@ returns-in_err-hover_text-clause-err g c =
     let name = c.args.names.events.now in
     let p = err_from_is_err_and c.from_residual-in_err-hover_text.result c.from_residual-in_err-hover_text.ensures.1 in
     let log : Logged told mid now ((name, recording_limit) ∷ []) (λ rs. Unit {0}) =
-    subst (λ (o : Option (List Entry)). Logged o mid now ((name, recording_limit) ∷ []) (λ rs. Unit {0})) c.in_ok-session.ensures.entries
+    subst (λ (o : Option (List Entry)). Logged o mid now ((name, recording_limit) ∷ []) (λ rs. Unit {0})) c.in_ok-session.ensures.files.entries
     (any_log _ mid now name recording_limit [] _ c.in_ok-events.ensures.ok) in
     rw (p.1, p.2) (more_log told before mid now c.args.names.session.now session_file ((name, recording_limit) ∷ []) _ _ c.in_ok-session.ensures.ok log)
 
@@ -86,7 +86,7 @@ returns-clause-ok g c =
     let one : IsRead told mid now name (events_file devices) (Ok c.deref-2.result.now) =
     subst (λ (es : List RawEvent). IsRead told mid now name (events_file devices) (Ok es)) (sym c.deref-2.ensures.value)
     (subst (λ (ds : Known). IsRead told mid now name (events_file ds) (Ok c.in_ok-events.events.items)) (ap known c.deref.ensures.value ∙ c.in_ok-devices.ensures)
-    (subst (λ (o : Option (List Entry)). IsRead o mid now name (events_file (known c.deref.result.now)) (Ok c.in_ok-events.events.items)) c.in_ok-session.ensures.entries
+    (subst (λ (o : Option (List Entry)). IsRead o mid now name (events_file (known c.deref.result.now)) (Ok c.in_ok-events.events.items)) c.in_ok-session.ensures.files.entries
     c.in_ok-events.ensures.ok)) in
     file_goes told before mid now session session_file ((name, recording_limit) ∷ []) plan (MouseAnswers name c.args.mouse.now) _ c.in_ok-session.ensures.ok
     (last_file told mid now name (events_file devices) c.deref-2.result.now (HoverAnswers plan) _ one c.in_ok-hover_text.ensures)

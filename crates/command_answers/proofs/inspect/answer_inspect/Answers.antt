@@ -34,7 +34,7 @@ returns-clause-ok g c =
     (λ text log. file_goes told before mid now c.args.names.session.now keyed_file ((events, recording_limit) ∷ []) session (CountsAnswer events) (Ok text)
     c.in_ok-session.ensures.ok
     (subst (λ (o : Option (List Entry)). Logged o mid now ((events, recording_limit) ∷ []) (λ rs. CountsAnswer events (by_log rs) session (Ok text)))
-    c.in_ok-session.ensures.entries log))
+    c.in_ok-session.ensures.files.entries log))
     c.counted_text.ensures.ok
 
 pub returns-clause-err : goal.returns-clause-err
@@ -50,7 +50,7 @@ returns-clause-err g c =
     let events = c.args.names.events.now in
     if_err_map c.counted_text.result _ _
     (λ r h. then_by told before mid now c.args.names.session.now keyed_file ((events, recording_limit) ∷ []) session (CountsAnswer events) fb fm fn r
-    c.in_ok-session.ensures.later c.in_ok-session.ensures.ok
+    c.in_ok-session.ensures.files.later c.in_ok-session.ensures.ok
     (subst (λ (o : Option (List Entry)). RefusesBy (λ x. Logged o mid now ((events, recording_limit) ∷ []) (λ rs. CountsAnswer events (by_log rs) session (Err x)))
-    (Logged o mid now ((events, recording_limit) ∷ []) (λ rs. Unit {0})) fm fn r) c.in_ok-session.ensures.entries h))
+    (Logged o mid now ((events, recording_limit) ∷ []) (λ rs. Unit {0})) fm fn r) c.in_ok-session.ensures.files.entries h))
     c.counted_text.ensures.err

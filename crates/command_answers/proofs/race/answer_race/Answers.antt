@@ -53,10 +53,10 @@ returns-in_err-events-clause-err g c =
     let p = err_from_is_err_and c.from_residual-in_err-events.result c.from_residual-in_err-events.ensures.1 in
     let why : RefusesFile told mid now name (events_file devices) fm fn refusal =
     subst (λ (ds : Known). RefusesFile told mid now name (events_file ds) fm fn refusal) (ap known c.deref.ensures.value ∙ c.in_ok-devices.ensures)
-    (subst (λ (o : Option (List Entry)). RefusesFile o mid now name (events_file (known c.deref.result.now)) fm fn refusal) c.in_ok-session.ensures.entries
+    (subst (λ (o : Option (List Entry)). RefusesFile o mid now name (events_file (known c.deref.result.now)) fm fn refusal) c.in_ok-session.ensures.files.entries
     c.in_err-events.ensures.err) in
     rw (p.1, p.2)
-    (then_by told before mid now c.args.names.session.now session_file ((name, recording_limit) ∷ []) plan (ThreadsAnswer name) fb fm fn refusal c.in_ok-session.ensures.later c.in_ok-session.ensures.ok
+    (then_by told before mid now c.args.names.session.now session_file ((name, recording_limit) ∷ []) plan (ThreadsAnswer name) fb fm fn refusal c.in_ok-session.ensures.files.later c.in_ok-session.ensures.ok
     (file_by told mid now name (events_file devices) [] (λ rest given. Ends (RaceAnswers plan given) rest) fm fn refusal why))
 
 pub returns-clause-ok : goal.returns-clause-ok
@@ -75,7 +75,7 @@ returns-clause-ok g c =
     let one : IsRead told mid now name (events_file devices) (Ok c.deref-2.result.now) =
     subst (λ (es : List RawEvent). IsRead told mid now name (events_file devices) (Ok es)) (sym c.deref-2.ensures.value)
     (subst (λ (ds : Known). IsRead told mid now name (events_file ds) (Ok c.in_ok-events.events.items)) (ap known c.deref.ensures.value ∙ c.in_ok-devices.ensures)
-    (subst (λ (o : Option (List Entry)). IsRead o mid now name (events_file (known c.deref.result.now)) (Ok c.in_ok-events.events.items)) c.in_ok-session.ensures.entries
+    (subst (λ (o : Option (List Entry)). IsRead o mid now name (events_file (known c.deref.result.now)) (Ok c.in_ok-events.events.items)) c.in_ok-session.ensures.files.entries
     c.in_ok-events.ensures.ok)) in
     if_ok_map c.race_of.result _ _
     (λ text h. file_goes told before mid now session session_file ((name, recording_limit) ∷ []) plan (ThreadsAnswer name) (Ok text) c.in_ok-session.ensures.ok
@@ -98,9 +98,9 @@ returns-clause-err g c =
     let one : IsRead told mid now name (events_file devices) (Ok c.deref-2.result.now) =
     subst (λ (es : List RawEvent). IsRead told mid now name (events_file devices) (Ok es)) (sym c.deref-2.ensures.value)
     (subst (λ (ds : Known). IsRead told mid now name (events_file ds) (Ok c.in_ok-events.events.items)) (ap known c.deref.ensures.value ∙ c.in_ok-devices.ensures)
-    (subst (λ (o : Option (List Entry)). IsRead o mid now name (events_file (known c.deref.result.now)) (Ok c.in_ok-events.events.items)) c.in_ok-session.ensures.entries
+    (subst (λ (o : Option (List Entry)). IsRead o mid now name (events_file (known c.deref.result.now)) (Ok c.in_ok-events.events.items)) c.in_ok-session.ensures.files.entries
     c.in_ok-events.ensures.ok)) in
     if_err_map c.race_of.result _ _
-    (λ r h. then_by told before mid now session session_file ((name, recording_limit) ∷ []) plan (ThreadsAnswer name) fb fm fn r c.in_ok-session.ensures.later
+    (λ r h. then_by told before mid now session session_file ((name, recording_limit) ∷ []) plan (ThreadsAnswer name) fb fm fn r c.in_ok-session.ensures.files.later
     c.in_ok-session.ensures.ok (last_by told mid now name (events_file devices) c.deref-2.result.now (RaceAnswers plan) fm fn r one h))
     c.race_of.ensures.err

@@ -45,7 +45,7 @@ returns-clause-ok g c =
     (λ text log. file_goes told before mid now c.args.names.session.now session_file ((events, recording_limit) ∷ []) plan (RecordingSends c.args.sending events) (Ok text)
     c.in_ok-plan.ensures.ok
     (subst (λ (o : Option (List Entry)). Logged o mid now ((events, recording_limit) ∷ []) (λ rs. RecordingSends c.args.sending events (by_log rs) plan (Ok text)))
-    c.in_ok-plan.ensures.entries log))
+    c.in_ok-plan.ensures.files.entries log))
     (c.recording_text.ensures.ok plan (subst (λ (how : Lines). BeginsWith how plan c.in_ok-begun.begun) c.lines.ensures c.in_ok-begun.ensures))
 
 pub returns-clause-err : goal.returns-clause-err
@@ -61,7 +61,7 @@ returns-clause-err g c =
     let events = c.args.names.events.now in
     if_err_map c.recording_text.result _ _
     (λ r h. then_by told before mid now c.args.names.session.now session_file ((events, recording_limit) ∷ []) plan (RecordingSends c.args.sending events) fb fm fn r
-    c.in_ok-plan.ensures.later c.in_ok-plan.ensures.ok
+    c.in_ok-plan.ensures.files.later c.in_ok-plan.ensures.ok
     (subst (λ (o : Option (List Entry)). RefusesBy (λ x. Logged o mid now ((events, recording_limit) ∷ []) (λ rs. RecordingSends c.args.sending events (by_log rs) plan (Err x)))
-    (Logged o mid now ((events, recording_limit) ∷ []) (λ rs. Unit {0})) fm fn r) c.in_ok-plan.ensures.entries h))
+    (Logged o mid now ((events, recording_limit) ∷ []) (λ rs. Unit {0})) fm fn r) c.in_ok-plan.ensures.files.entries h))
     (c.recording_text.ensures.err plan (subst (λ (how : Lines). BeginsWith how plan c.in_ok-begun.begun) c.lines.ensures c.in_ok-begun.ensures))
