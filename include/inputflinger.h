@@ -412,6 +412,17 @@ struct inputflinger_rect {
 #define INPUTFLINGER_SLIPPERY 8u		/* a finger that moves out of it may continue in the window it enters */
 #define INPUTFLINGER_SPY 16u			/* it sees the touches of what is behind it, and may pilfer them */
 #define INPUTFLINGER_PREVENT_SPLITTING 32u	/* the fingers of a gesture are not split between it and others */
+#define INPUTFLINGER_TRUSTED_OVERLAY 64u	/* it is the system's own, and neither blocks nor marks a touch */
+
+/* Whether a touch may go through a window to a window of another owner behind it. */
+enum inputflinger_occlusion {
+	/* It may not: the window behind is given no pointer there. */
+	INPUTFLINGER_BLOCK = 0,
+	/* It may if the windows of the owner with this occlusion together hide at most 80 per cent there. */
+	INPUTFLINGER_OPACITY = 1,
+	/* It may. */
+	INPUTFLINGER_ALLOW = 2
+};
 
 /*
  * A window of a client. A client has one window at most.
@@ -421,6 +432,14 @@ struct inputflinger_rect {
  *     flags      the bits above
  *     rects      the number of rectangles in which it can be touched, at most 64; they are passed beside the windows
  *     display    0 to 3; all its pixels are those of this display
+ *     unused     ignored; up to here the struct is that of the first release
+ *     owner      whose it is, as a number of your choice: windows of one owner trust each other
+ *     opacity    how much it hides of what is behind it, 0 to 100 per cent; 0 is invisible
+ *     occlusion  whether a touch may go through it to a window of another owner: an inputflinger_occlusion
+ *
+ * A window whose frame holds a finger stands over all windows behind it there. One of another owner either blocks a window
+ * behind it, which then is given no pointer, or marks its motions as obscured; a window of opacity 0 that is not touchable
+ * does neither. If all windows have one owner, as those of a zeroed struct have, opacity and occlusion mean nothing.
  */
 struct inputflinger_window {
 	struct inputflinger_client client;
@@ -428,6 +447,10 @@ struct inputflinger_window {
 	uint32_t flags;
 	uint32_t rects;
 	uint8_t display;
+	uint8_t unused[7];
+	uint32_t owner;
+	uint8_t opacity;
+	uint8_t occlusion;
 };
 
 /* The range of a panel's raw positions on one axis, both ends included, as EVIOCGABS gives it. */
@@ -565,10 +588,21 @@ int inputflinger_live_remove_device(struct inputflinger_live *live, uint64_t now
  *                                was not taken, and the rest was dispatched; the clock advanced
  *     INPUTFLINGER_NO_MEMORY     it was not taken: nothing changed
  *     INPUTFLINGER_WAITS         out of memory after it was taken: it is dispatched, in its order, by the next call that
- *                                has the memory and hands something in or advances
+ *                                has the memory and hands something in or advances; not if room was reserved for it
  */
 int inputflinger_live_event(struct inputflinger_live *live, uint64_t now_us, uint8_t device, uint16_t type,
 			    uint16_t code, int32_t value);
+
+/*
+ * Makes room for the next events of devices, so many and of any devices: none of them answers INPUTFLINGER_WAITS, if
+ * nothing waits now and no other call that takes the time comes between. An event may give 33 motions, and each may send
+ * 131 messages to a client, for which room is made for every channel that was used: with 10 channels about 10 MB an event,
+ * which is used again when the next event is reserved. A key that goes down may still answer INPUTFLINGER_NO_MEMORY.
+ *
+ *     INPUTFLINGER_OK         there is room
+ *     INPUTFLINGER_NO_MEMORY  nothing changed
+ */
+int inputflinger_live_reserve(struct inputflinger_live *live, uint16_t events);
 
 /*
  * Hands in finished input of a device: a motion or a key as a message says it, in display pixels, or a reset
@@ -632,6 +666,9 @@ int inputflinger_live_client_at(const struct inputflinger_live *live, uint32_t c
  *     windows [b's window, that of a closed client]   INPUTFLINGER_NOT_OPEN, named 1: nothing changed
  *     focus(0, b)                                     INPUTFLINGER_OK: keys go to b
  *     focus(0, NULL)                                  INPUTFLINGER_OK: keys go nowhere
+ *     windows [a's window, of owner 1, b's, of owner 2]
+ *                                                     INPUTFLINGER_OK: a's window blocks b's where its frame is
+ *     a finger goes down there; a's is NOT_TOUCHABLE  nobody is given it
  */
 
 /*
@@ -640,8 +677,9 @@ int inputflinger_live_client_at(const struct inputflinger_live *live, uint32_t c
  * rects_len is 0, and named always.
  *
  *     INPUTFLINGER_OK            the windows are shown
- *     INPUTFLINGER_OUT_OF_RANGE  now_us; a display; there are too few rectangles; a window has more than 64, or one whose
- *                                left edge is right of its right edge, or whose top edge is below its bottom edge
+ *     INPUTFLINGER_OUT_OF_RANGE  now_us; a display, an opacity or an occlusion; there are too few rectangles; a window has
+ *                                more than 64, or one whose left edge is right of its right edge, or whose top edge is
+ *                                below its bottom edge
  *     INPUTFLINGER_NOT_OPEN      the client of a window is not open; named is the index of the first such window, from 0
  *     INPUTFLINGER_TOO_MANY      more than 64 windows
  *     INPUTFLINGER_TWICE         a client has two windows; named is its channel

@@ -235,6 +235,13 @@ int inputflinger_live_due(const struct inputflinger_live *live, uint64_t *moment
 	return (int)inputflinger_proved_live_due(&own, moment_us);
 }
 
+int inputflinger_live_reserve(struct inputflinger_live *live, uint16_t events)
+{
+	if (live == NULL)
+		return INPUTFLINGER_NULL;
+	return (int)inputflinger_proved_live_reserve(live, events);
+}
+
 int inputflinger_live_advance(struct inputflinger_live *live, uint64_t now_us, uint64_t *mask)
 {
 	if (live == NULL || mask == NULL)

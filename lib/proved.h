@@ -47,6 +47,7 @@ uint32_t inputflinger_proved_live_next(struct inputflinger_live *live, const str
 uint32_t inputflinger_proved_live_finish(struct inputflinger_live *live, uint64_t now_us,
 		const struct inputflinger_client *client, uint64_t seq);
 uint32_t inputflinger_proved_live_due(struct inputflinger_live *live, uint64_t *moment_us);
+uint32_t inputflinger_proved_live_reserve(struct inputflinger_live *live, uint16_t events);
 uint32_t inputflinger_proved_live_advance(struct inputflinger_live *live, uint64_t now_us, uint64_t *mask);
 uint32_t inputflinger_proved_live_clock(struct inputflinger_live *live, uint64_t *moment_us);
 uint32_t inputflinger_proved_live_focused(struct inputflinger_live *live, uint8_t display,

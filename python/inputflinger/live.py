@@ -44,24 +44,41 @@ class WindowFlag(enum.IntFlag):
     SLIPPERY = 8
     SPY = 16
     PREVENT_SPLITTING = 32
+    TRUSTED_OVERLAY = 64
+
+
+class Occlusion(enum.IntEnum):
+    """Whether a touch may go through a window to a window of another owner behind it."""
+
+    BLOCK = 0
+    """It may not: the window behind is given no pointer there."""
+    OPACITY = 1
+    """It may if the windows of the owner with this occlusion together hide at most 80 per cent there."""
+    ALLOW = 2
+    """It may."""
 
 
 @dataclasses.dataclass(frozen=True)
 class Window:
     """A window of a client. Its frame's left and top edges are the origin of what the client is sent. It can be touched in ``touchable``, which is the whole
-    frame if it is None."""
+    frame if it is None. Windows of one ``owner`` trust each other; ``opacity``, 0 to 100 per cent, is how much it hides of what is behind it, and ``occlusion``
+    whether a touch may go through it to a window of another owner."""
 
     client: Client
     frame: Rect
     flags: int = 0
     touchable: Optional[Sequence[Rect]] = None
     display: int = 0
+    owner: int = 0
+    opacity: int = 100
+    occlusion: Occlusion = Occlusion.BLOCK
 
     def rects(self) -> Sequence[Rect]:
         return [self.frame] if self.touchable is None else self.touchable
 
     def plain(self) -> native.Window:
-        return native.Window(self.client.plain(), self.frame.plain(), u32(self.flags), len(self.rects()), u8(self.display))
+        trust = (native.UNUSED, u32(self.owner), u8(self.opacity), u8(self.occlusion))
+        return native.Window(self.client.plain(), self.frame.plain(), u32(self.flags), len(self.rects()), u8(self.display), *trust)
 
 
 @dataclasses.dataclass(frozen=True)
@@ -198,6 +215,10 @@ class Live:
         """The first time at which something is due. While input waits for memory, it is the clock."""
         time = ctypes.c_uint64()
         return time.value if found(native.call("live_due", byref(self._handle), byref(time))) else None
+
+    def reserve(self, events: int) -> None:
+        """Makes room for the next events of devices, so that none of them is ``Status.WAITS``, if nothing waits now and no other call comes between."""
+        done(native.call("live_reserve", byref(self._handle), u16(events)))
 
     def advance(self, now_us: int) -> FrozenSet[int]:
         """Runs everything that is due up to now. The answer is the channels that were reported as unresponsive."""

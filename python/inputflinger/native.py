@@ -65,7 +65,20 @@ class Rect(ctypes.Structure):
 
 
 class Window(ctypes.Structure):
-    _fields_ = [("client", Client), ("frame", Rect), ("flags", c_uint32), ("rects", c_uint32), ("display", c_uint8)]
+    _fields_ = [
+        ("client", Client),
+        ("frame", Rect),
+        ("flags", c_uint32),
+        ("rects", c_uint32),
+        ("display", c_uint8),
+        ("unused", c_uint8 * 7),
+        ("owner", c_uint32),
+        ("opacity", c_uint8),
+        ("occlusion", c_uint8),
+    ]
+
+
+UNUSED = (c_uint8 * 7)()
 
 
 class Axis(ctypes.Structure):
@@ -116,6 +129,7 @@ CALLS = {
     "live_next_sized": [_HANDLE, _CLIENT, POINTER(Message), c_size_t],
     "live_finish": [_HANDLE, c_uint64, _CLIENT, c_uint64],
     "live_due": [_HANDLE, _U64],
+    "live_reserve": [_HANDLE, c_uint16],
     "live_advance": [_HANDLE, c_uint64, _U64],
     "live_clock": [_HANDLE, _U64],
     "live_focused": [_HANDLE, c_uint8, _CLIENT],

@@ -1,6 +1,6 @@
 import pytest
 
-from inputflinger import Action, BadLayout, Client, Focus, InputflingerError, Judge, Key, Live, Motion, Panel, Pointer, Rect, Status, Window, WindowError, WindowFlag
+from inputflinger import FLAG_OBSCURED, Action, BadLayout, Client, Focus, InputflingerError, Judge, Key, Live, Motion, Occlusion, Panel, Pointer, Rect, Status, Window, WindowError, WindowFlag
 
 PANEL = Panel((0, 1079), (0, 2399), 1080, 2400)
 WHOLE = Rect(0, 0, 1080, 2400)
@@ -65,6 +65,19 @@ def test_clients_come_and_go() -> None:
         with pytest.raises(WindowError) as error:
             live.windows(0, [Window(live.client_at(1), WHOLE), Window(first, WHOLE)])
         assert error.value.status == Status.NOT_OPEN and error.value.named == 1
+
+
+def test_a_window_of_another_owner_blocks_or_marks_a_touch() -> None:
+    with Live() as live:
+        panel = live.add_touch(PANEL)
+        upper, lower = live.open(), live.open()
+        for now, occlusion, wanted in ((1000, Occlusion.BLOCK, None), (2000, Occlusion.ALLOW, FLAG_OBSCURED)):
+            live.windows(now, [Window(upper, WHOLE, WindowFlag.NOT_TOUCHABLE, owner=1, occlusion=occlusion), Window(lower, WHOLE)])
+            for action in (Action.DOWN, Action.UP):
+                live.args(now, Motion(panel, action, [Pointer(0, 540, 1200)]))
+                message = live.next(lower)
+                assert (None if message is None else message.flags) == wanted
+        assert refused(live.windows, 3000, [Window(lower, WHOLE, opacity=101)]) == Status.OUT_OF_RANGE
 
 
 def test_a_spy_pilfers() -> None:

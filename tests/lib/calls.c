@@ -14,7 +14,7 @@
  *
  * A client is identified by how many were opened up to it, whether or not it is still open. The time of a call comes
  * first. A window is its client, its display, the four edges of its frame, which is also where it can be touched, and its
- * flags as a number.
+ * flags as a number; one of `owned` has its owner, its opacity and its occlusion too.
  *
  * The devices 1 to 6 are of display 0, and 7 and 8 are of display 1. A panel is plugged in by its display and its slots;
  * its positions are the pixels of its display. What a finger does is given in events: `down` has the device, the slot, the
@@ -224,16 +224,17 @@ static bool receiving(const struct line *line)
 	return true;
 }
 
-static int windows(const struct line *line)
+/* Shows windows of so many numbers each. */
+static int windows(const struct line *line, size_t numbers)
 {
 	struct inputflinger_window shown[WINDOWS] = {0};
 	struct inputflinger_rect frames[WINDOWS];
-	size_t count = (line->count - 1) / 7;
+	size_t count = (line->count - 1) / numbers;
 
-	if (line->count % 7 != 1 || count > WINDOWS)
+	if (line->count % numbers != 1 || count > WINDOWS)
 		fail("no windows", line->word);
 	for (size_t i = 0; i < count; i++) {
-		const uint64_t *n = &line->n[1 + 7 * i];
+		const uint64_t *n = &line->n[1 + numbers * i];
 
 		frames[i] = (struct inputflinger_rect){(int32_t)n[2], (int32_t)n[3], (int32_t)n[4], (int32_t)n[5]};
 		shown[i].client = *client(n[0]);
@@ -241,6 +242,11 @@ static int windows(const struct line *line)
 		shown[i].frame = frames[i];
 		shown[i].flags = (uint32_t)n[6];
 		shown[i].rects = 1;
+		if (numbers == 10) {
+			shown[i].owner = (uint32_t)n[7];
+			shown[i].opacity = (uint8_t)n[8];
+			shown[i].occlusion = (uint8_t)n[9];
+		}
 	}
 	return inputflinger_live_windows(&live, line->n[0], shown, count, frames, count, NULL);
 }
@@ -287,7 +293,9 @@ static int doing(const struct line *line)
 static int calling(const struct line *line)
 {
 	if (strcmp(line->word, "windows") == 0 && line->count > 0)
-		return windows(line);
+		return windows(line, 7);
+	if (strcmp(line->word, "owned") == 0 && line->count > 0)
+		return windows(line, 10);
 	if (is(line, "focus", 2))
 		return inputflinger_live_focus(&live, line->n[0], (uint8_t)line->n[1], NULL);
 	if (is(line, "focus", 3))

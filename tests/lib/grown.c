@@ -93,7 +93,7 @@ static void other_sizes(void)
 		CHECK(inputflinger_judge_state_sized(&judge, &state, sizeof state - 1) == wanted);
 		CHECK(inputflinger_live_add_touch_sized(&live, 0, 1, &panel, sizeof panel - 1, &device) == wanted);
 		CHECK(inputflinger_live_args_sized(&live, 0, &m, sizeof m - 1) == wanted);
-		CHECK(inputflinger_live_windows_sized(&live, 0, &window, sizeof window - 1, 1, NULL, 0, NULL) == wanted);
+		CHECK(inputflinger_live_windows_sized(&live, 0, &window, WINDOW_FIRST - 1, 1, NULL, 0, NULL) == wanted);
 		CHECK(inputflinger_live_next_sized(&live, &client, &m, sizeof m - 1) == wanted);
 		CHECK(fault.place == 77 && state.focus == 77 && device == 77 && m.count == 1);
 		OK(open ? inputflinger_judge_free(&judge) : inputflinger_judge_new(&judge));
@@ -152,6 +152,31 @@ static void older(void)
 	CHECK(memcmp(&old.m, &m, sizeof m) == 0 && old.behind[0] == 0x55 && old.behind[7] == 0x55);
 }
 
+/* A window as the first release had it: it has no owner, so what it is over neither blocks nor marks anything. */
+static void older_windows(void)
+{
+	struct inputflinger_live live = {0};
+	struct inputflinger_rect whole[2] = {{0, 0, 1000, 1000}, {0, 0, 1000, 1000}};
+	struct inputflinger_message m = down().now;
+	unsigned char windows[2 * WINDOW_FIRST];
+	uint8_t device;
+
+	OK(inputflinger_live_new(&live, 1000000, NULL));
+	OK(inputflinger_live_add_touch(&live, 0, 1, &panel, &device));
+	for (int i = 0; i < 2; i++) {
+		struct inputflinger_window window = {.frame = whole[0], .rects = 1, .flags = i == 0 ? INPUTFLINGER_NOT_TOUCHABLE : 0};
+
+		memset(window.unused, 0x55, sizeof window.unused);
+		OK(inputflinger_live_open(&live, &window.client));
+		memcpy(windows + i * WINDOW_FIRST, &window, WINDOW_FIRST);
+	}
+	OK(inputflinger_live_windows_sized(&live, 0, (const struct inputflinger_window *)windows, WINDOW_FIRST, 2, whole, 2, NULL));
+	OK(inputflinger_live_args(&live, 1000, &m));
+	OK(inputflinger_live_next(&live, &(struct inputflinger_client){2, 2}, &m));
+	CHECK(m.action == INPUTFLINGER_DOWN && m.flags == 0);
+	OK(inputflinger_live_free(&live));
+}
+
 /* Each status has a text of its own, and no other number has one. */
 static void texts(void)
 {
@@ -175,6 +200,7 @@ int main(void)
 	other_sizes();
 	later_live();
 	older();
+	older_windows();
 	texts();
 	return 0;
 }

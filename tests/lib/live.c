@@ -53,7 +53,7 @@ static message_t key(uint8_t device, uint16_t scan, uint16_t code, uint8_t down)
 
 static struct inputflinger_window window(client_t client, uint32_t flags)
 {
-	struct inputflinger_window w = {client, {0, 0, 1080, 2400}, flags, 1, 0};
+	struct inputflinger_window w = {.client = client, .frame = {0, 0, 1080, 2400}, .flags = flags, .rects = 1};
 
 	return w;
 }

@@ -161,7 +161,7 @@ static void begin(struct life *life, struct inputflinger_client *spy, struct inp
 	static const struct inputflinger_panel panel = {{0, 999}, {0, 999}, 1000, 1000, 0};
 	static const struct inputflinger_rect whole = {0, 0, 1000, 1000}, both[2] = {{0, 0, 1000, 1000}, {0, 0, 1000, 1000}};
 	static const char layout[] = "key 30 A\nkey 48 B\n";
-	struct inputflinger_window windows[2] = {{{0, 0}, whole, INPUTFLINGER_SPY, 1, 0}, {{0, 0}, whole, 0, 1, 0}};
+	struct inputflinger_window windows[2] = {{.frame = whole, .flags = INPUTFLINGER_SPY, .rects = 1}, {.frame = whole, .rects = 1}};
 	struct {
 		struct inputflinger_window now;
 		uint64_t more;

@@ -15,7 +15,7 @@ size_of n =
     else if n == 6 then 16
     else if n == 7 then 16
     else if n == 8 then 16
-    else if n == 9 then 48
+    else if n == 9 then 56
     else if n == 10 then 8
     else if n == 11 then 24
     else if n == 12 then 8

@@ -1,12 +1,12 @@
 //! What is due in a live service, and what its devices deliver.
 ghost use Rattle.std.specs.Prelude.{◌≡◌, ⊤, nat_eq};
 ghost use Rattle.plain_calls.specs.Calling.{Reads, Replies, ok_of, answer_status, written};
-ghost use Rattle.plain_calls.specs.Driving.{IsDue, CaughtUp, Happened, HandedIn, Removed, TouchAdded};
+ghost use Rattle.plain_calls.specs.Driving.{IsDue, CaughtUp, Happened, HandedIn, Removed, Reserved, TouchAdded};
 ghost use Rattle.plain_calls.specs.Layouts.{AddsKeys, layout_from};
 ghost use Rattle.plain_calls.specs.Numbers.{device_of, display_of, moment_of};
 ghost use Rattle.plain_calls.specs.Plain.{args_of};
 ghost use Rattle.plain_calls.specs.Plugging.{cook_of};
-ghost use Rattle.plain_calls.specs.Replies.{add_status, args_status, advance_status};
+ghost use Rattle.plain_calls.specs.Replies.{add_status, args_status, advance_status, reserve_status};
 ghost use Rattle.plain_calls.specs.Status.{no_memory};
 ghost use Rattle.inputflinger_c.specs.Serving.{OnService};
 
@@ -76,6 +76,24 @@ pub extern "C" fn inputflinger_proved_live_event(
         return FREE;
     };
     let status = driving::event(&mut service, now_us, device, kind, code, value);
+    live.put(service);
+    status
+}
+
+/// Makes room for events to come; see `driving::reserve`. `FREE` if the handle is free.
+#[unsafe(no_mangle)]
+pub extern "C" fn inputflinger_proved_live_reserve(
+    alloc: Global,
+    live: &mut Service,
+    events: u16,
+) -> u32
+    ensures { OnService live.old.cell.state result live.new.cell.state ⊤
+        (λ old new. Replies reserve_status result (Reserved events old new)) }
+{
+    let Some(mut service) = live.take(alloc) else {
+        return FREE;
+    };
+    let status = driving::reserve(&mut service, events);
     live.put(service);
     status
 }

@@ -4,6 +4,7 @@ use live_input::{Client, ClientWindow, Live};
 use std::alloc::Global;
 use touch_mapper::Cook;
 use touch_region::{Rect, Region};
+use window_snapshot::{Occlusion, Percent};
 
 /// A service with one panel, and the client that never finishes a message.
 #[derive(Drop)]
@@ -30,6 +31,9 @@ fn window(alloc: Global, client: Client, left: i32, right: i32) -> Option<Client
         frame,
         region: Region::new(rects).ok()?,
         flags: bitflags::Flags::from_bits_retain(0),
+        owner: 0,
+        opacity: Percent::whole(),
+        occlusion: Occlusion::Block,
     })
 }
 

@@ -31,6 +31,18 @@ pub follows_last : (next : List Effect → Option Call) (ds : List ℕ) (es : Li
 follows_last next ds es [] call f e = (e, tt)
 follows_last next ds es (c ∷ cs) call f e = (f.0, follows_last next ds (answered ds c es) cs call f.1 e)
 
+-- where nothing is next, nothing was made, so nothing is next after it
+pub none_follows : (next : List Effect → Option Call) (ds : List ℕ) (es : List Effect) (calls : List Call) (call : Call)
+    → Follows next ds es calls → next es ≡ None → next (extend ds es calls) ≡ Some call → ⊥
+none_follows next ds es [] call f none e = none≢some call (sym none ∙ e)
+  where
+    none≢some : (k : Call) → None ≡ Some k → ⊥
+    none≢some k e = cc
+none_follows next ds es (c ∷ cs) call f none e = none≢some c (sym none ∙ f.0)
+  where
+    none≢some : (k : Call) → None ≡ Some k → ⊥
+    none≢some k e = cc
+
 -- the channels that one more call reports
 pub named_last : (ds : List ℕ) (es : List Effect) (calls : List Call) (call : Call) (c : ℕ)
     → is_named_in ds es (calls ++ call ∷ []) c ≡ (is_named_in ds es calls c || is_named_by call (reply_to (extend ds es calls) call) c)

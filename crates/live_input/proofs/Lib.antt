@@ -24,3 +24,4 @@ pub mod Taken
 pub mod Settled
 pub mod Able
 pub mod Fed
+pub mod Roomy

@@ -8,6 +8,7 @@ pub mod Answers
 pub mod Outgoing
 pub mod Giving
 pub mod Plugging
+pub mod Room
 pub mod Asking
 pub mod Closing
 pub mod Taking

@@ -3,7 +3,6 @@ use Rattle.std.specs.Prelude.{ℕ, ◌≡◌, not, List, map, Option, Some, None
 use Rattle.std.specs.List.{position}
 use Rattle.window_snapshot.specs.declared.snapshot.SnapshotError.{SnapshotError}
 use Rattle.window_snapshot.specs.declared.snapshot.SnapshotError.TheVariants as snapshot
-use Rattle.window_snapshot.specs.declared.occlusion.Occlusion.TheVariants.{Block}
 use Rattle.window_snapshot.specs.declared.window.Window.{Window}
 use Rattle.window_snapshot.specs.Snapshot.{snapshot_of}
 use Rattle.dispatch_calls.specs.declared.call.Call.TheVariants.{Windows}
@@ -24,9 +23,9 @@ window_of w = record {
   frame = w.frame;
   region = w.region;
   flags = w.flags;
-  owner = 0;
-  opacity = 100;
-  occlusion = Block;
+  owner = w.owner;
+  opacity = w.opacity;
+  occlusion = w.occlusion;
 }
 
 -- the index of the first window whose client is not open

@@ -1,14 +1,16 @@
 //! Waiting args, and what is due.
-ghost use Rattle.std.specs.Prelude.{◌≡◌, ◌⊎◌, ℕ, ◌||◌, true, List, [], Option, IfOk, OnOk, OnErr};
+ghost use Rattle.std.specs.Prelude.{◌≡◌, ◌⊎◌, ℕ, ◌≤◌, ◌||◌, true, List, [], length, Option, None, IfOk, IsOk, OnOk, OnErr};
 ghost use Rattle.dispatch_calls.specs.declared.call.Call.TheVariants.{Tick};
 ghost use Rattle.dispatch_history.specs.Delivery.{is_named_by};
 ghost use Rattle.dispatch_history.specs.Effect.{Effect};
 ghost use Rattle.dispatch_history.specs.Legal.{answered};
 ghost use Rattle.dispatch_history.specs.Reply.{reply_to};
 ghost use Rattle.dispatcher.specs.Access.{any_waits};
+ghost use Rattle.dispatcher.specs.Memory.{MayCount};
 ghost use Rattle.window_snapshot.specs.Mask.{mask_has};
 ghost use Rattle.live_input.specs.Answers.{SameClients, SameSeats};
 ghost use Rattle.live_input.specs.Giving.{HandedInPart, notified};
+ghost use Rattle.live_input.specs.Room.{MayCountMore, PumpsOver};
 ghost use Rattle.live_input.specs.Settling.{Reaches, Settles, due_of, next_waiting, next_due};
 ghost use Rattle.live_input.specs.Advancing.{Advances, Advanced};
 ghost use Rattle.live_input.specs.Standing.{IsMaskOfHeld, IsOfHeld, LiveIs, is_plain};
@@ -22,16 +24,21 @@ use std::alloc::AllocError;
 
 impl Live {
     /// Dispatches waiting args until none wait.
+    #[tactic(auto, using(crate::proofs::Roomy::pumps_over_first))]
     pub(crate) fn dispatch_waiting(&mut self, now: Moment) -> Result<(), AllocError>
         ensures goes { (ds : List ℕ) (es : List Effect) → LiveIs ds es self.old
             → Reaches ds (next_waiting now) es self.new }
         ensures done { (ds : List ℕ) (es : List Effect) → LiveIs ds es self.old
             → OnOk result (Settles ds (next_waiting now) es self.new) }
+        ensures room { (ds : List ℕ) (es : List Effect) → LiveIs ds es self.old → PumpsOver self.old self.new }
+        ensures reserved { (ds : List ℕ) (es : List Effect) → LiveIs ds es self.old
+            → length self.old.dispatcher.queue.waiting ≤ self.old.dispatcher.queue.pumps
+            → MayCountMore (length self.old.dispatcher.queue.waiting) es → IsOk result }
         ensures clients { SameClients self.old self.new }
         ensures named { self.new.named ≡ self.old.named }
         ensures clock { self.new.clock ≡ self.old.clock }
     {
-        for _ in 0..u64::MAX {
+        for made in 0..u64::MAX {
             let Some(call) = next_waiting(&self.dispatcher, now) else {
                 return Ok(());
             };
@@ -66,6 +73,8 @@ impl Live {
             → OnErr result (HandedInPart ds (latest now self.old) es self.old.pending self.new
             ⊎ Advances ds (latest now self.old) (notified ds (latest now self.old) es self.old.pending)
             self.old self.new) }
+        ensures still { (ds : List ℕ) (es : List Effect) → LiveIs ds es self.old → MayCount es
+            → self.old.pending ≡ [] → next_due (latest now self.old) es ≡ None → IsOk result }
         ensures clock { self.new.clock ≡ latest now self.old }
         ensures devices { self.new.devices ≡ self.old.devices }
         ensures seats { SameSeats self.old self.new }
@@ -85,10 +94,12 @@ impl Live {
             → IfOk result (λ mask. IsMaskOfHeld mask self.old.seats) }
         ensures err { (ds : List ℕ) (es : List Effect) → LiveIs ds es self.old
             → OnErr result (Advances ds now es self.old self.new) }
+        ensures still { (ds : List ℕ) (es : List Effect) → LiveIs ds es self.old → next_due now es ≡ None
+            → IsOk result }
         ensures clients { SameClients self.old self.new }
         ensures clock { self.new.clock ≡ self.old.clock }
     {
-        for _ in 0..u64::MAX {
+        for made in 0..u64::MAX {
             let Some(call) = next_due(&self.dispatcher, now) else {
                 let named = self.named;
                 self.named = 0;

@@ -1,21 +1,26 @@
 //! What devices deliver: events, and args that are ready.
-ghost use Rattle.std.specs.Prelude.{◌≡◌, ◌==◌, ◌&&◌, ◌≤◌, ℕ, true, false, List, [], ◌∷◌, drop, slice_get, Err, IfOk, OnOk, OnErr};
+ghost use Rattle.std.specs.Prelude.{◌≡◌, ◌==◌, ◌&&◌, ◌+◌, ◌≤◌, ℕ, true, false, List, [], ◌∷◌, drop, length, slice_get, Err, IfOk, IsOk, OnOk, OnErr};
 ghost use Rattle.dispatch_calls.specs.declared.call.Call.TheVariants.{Notify};
 ghost use Rattle.dispatch_history.specs.Effect.{Effect};
 ghost use Rattle.dispatch_history.specs.Legal.{answered};
 ghost use Rattle.dispatch_history.specs.Reply.{reply_to};
 ghost use Rattle.input_types.specs.DeviceRule.{device_of};
+ghost use Rattle.dispatcher.specs.Access.{is_waiting};
+ghost use Rattle.dispatcher.specs.Answered.{AnswersReserved};
+ghost use Rattle.dispatcher.specs.Outcomes.{reply_of};
 ghost use Rattle.raw_events.specs.declared.event.RawEvent.{RawEvent as Event};
 ghost use Rattle.device_reader.specs.Cooked.{DevicePlan};
 ghost use Rattle.device_table.specs.Table.{StandsAt, is_there, reader_of};
 ghost use Rattle.live_input.specs.Answers.{SameClients, SameSeats, is_taken};
 ghost use Rattle.live_input.specs.Giving.{Delivers, Gives, GivesEvent, HandedInPart, IsFed, all_taken, notified};
+ghost use Rattle.live_input.specs.Room.{GivesAtOnce, GoesAtOnce, HandsOver, HasRoom, MayCountMore};
+ghost use Rattle.live_input.specs.Settling.{waits};
 ghost use Rattle.live_input.specs.Standing.{LiveIs};
 ghost use Rattle.live_input.specs.State.{latest};
 
 use crate::live::Live;
 use crate::refused::ArgsRefused;
-use dispatch_calls::{Call, Reply};
+use dispatcher::Outcome;
 use inbound::device_of;
 use input_types::{Args, DeviceId, Moment};
 use raw_events::RawEvent;
@@ -47,6 +52,11 @@ impl Live {
         ensures fits { (ds : List ℕ) (es : List Effect) (plan : DevicePlan) (past : List Event) → LiveIs ds es self.old
             → StandsAt plan past device self.old.devices → self.old.pending ≡ [] → IsFed plan past es
             → result ≡ Err ArgsRefused.Inconsistent → ⊥ }
+        ensures reserved { (n : ℕ) (ds : List ℕ) (es : List Effect) (plan : DevicePlan) (past : List Event)
+            → LiveIs ds es self.old → StandsAt plan past device self.old.devices → waits es self.old ≡ false
+            → GivesAtOnce n es plan past
+            (record { device = device; moment = latest now self.old; kind = kind; code = code; value = value })
+            result self.old self.new }
         ensures others { (d : ℕ) → 1 ≤ d → (d == device) ≡ false
             → reader_of self.new.devices d ≡ reader_of self.old.devices d }
         ensures seats { SameSeats self.old self.new }
@@ -95,6 +105,9 @@ impl Live {
     pub(crate) fn deliver(&mut self, now: Moment) -> Result<(), ArgsRefused>
         ensures after { (ds : List ℕ) (es : List Effect) → LiveIs ds es self.old
             → Delivers ds now es self.old.pending result self.new }
+        ensures reserved { (n : ℕ) (ds : List ℕ) (es : List Effect) → LiveIs ds es self.old → is_waiting es ≡ false
+            → HasRoom (length self.old.pending + n) self.old
+            → MayCountMore (length self.old.pending + length self.old.pending) es → GoesAtOnce n result self.new }
         ensures devices { self.new.devices ≡ self.old.devices }
         ensures seats { SameSeats self.old self.new }
         ensures named { self.new.named ≡ self.old.named }
@@ -116,6 +129,7 @@ impl Live {
     }
 
     /// Hands in what still waits for that, one after another. Returns whether all of it was accepted.
+    #[tactic(auto, using(crate::proofs::Roomy::hands_over_first))]
     pub(crate) fn hand_in(&mut self, now: Moment) -> Result<bool, AllocError>
         ensures after { (ds : List ℕ) (es : List Effect) → LiveIs ds es self.old
             → OnOk result (LiveIs ds (notified ds now es self.old.pending) self.new) }
@@ -124,13 +138,17 @@ impl Live {
         ensures none { OnOk result (self.new.pending ≡ []) }
         ensures part { (ds : List ℕ) (es : List Effect) → LiveIs ds es self.old
             → OnErr result (HandedInPart ds now es self.old.pending self.new) }
+        ensures room { (ds : List ℕ) (es : List Effect) → LiveIs ds es self.old → HandsOver self.old self.new }
+        ensures reserved { (ds : List ℕ) (es : List Effect) → LiveIs ds es self.old
+            → length self.old.pending ≤ self.old.dispatcher.queue.spare
+            → MayCountMore (length self.old.pending) es → IsOk result }
         ensures devices { self.new.devices ≡ self.old.devices }
         ensures seats { SameSeats self.old self.new }
         ensures named { self.new.named ≡ self.old.named }
         ensures clock { self.new.clock ≡ self.old.clock }
     {
         let mut fits = true;
-        for _ in 0..u64::MAX {
+        for made in 0..u64::MAX {
             let Some(next) = first_of(&self.pending) else {
                 return Ok(fits);
             };
@@ -151,11 +169,12 @@ impl Live {
         ensures named { self.new.named ≡ self.old.named }
         ensures clock { self.new.clock ≡ self.old.clock }
         ensures err { OnErr result (self.new ≡ self.old) }
+        ensures reserved { AnswersReserved (Notify now args) self.old.dispatcher result }
+        ensures pumps { OnOk result (self.new.dispatcher.queue.pumps ≡ self.old.dispatcher.queue.pumps) }
+        ensures room { OnOk result (self.old.dispatcher.queue.spare ≤ self.new.dispatcher.queue.spare + 1) }
     {
-        match self.apply(&Call::Notify { now, args }) {
-            Ok(reply) => Ok(is_taken(&reply)),
-            Err(error) => Err(error),
-        }
+        let outcome = self.dispatcher.notify(now, &args)?;
+        Ok(is_taken(outcome))
     }
 }
 
@@ -197,8 +216,8 @@ fn drop_first(args: &mut Vec<Args>)
 }
 
 /// Whether args were taken.
-fn is_taken(reply: &Reply) -> bool
-    ensures { result ≡ is_taken reply.now }
+fn is_taken(outcome: Outcome) -> bool
+    ensures { result ≡ is_taken (reply_of outcome) }
 {
-    matches!(reply, Reply::Taken)
+    matches!(outcome, Outcome::Taken)
 }

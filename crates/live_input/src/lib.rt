@@ -36,6 +36,7 @@ mod messages;
 mod plugging;
 mod refused;
 mod releasing;
+mod room;
 mod settling;
 mod showing;
 mod windows;

@@ -1,9 +1,10 @@
 //! The service.
-ghost use Rattle.std.specs.Prelude.{◌≡◌, ℕ, true, [], List, replicate, None, IfOk, OnOk, OnErr};
+ghost use Rattle.std.specs.Prelude.{◌≡◌, ◌+◌, ◌≤◌, ℕ, true, [], List, replicate, None, IfOk, OnOk, OnErr};
 ghost use Rattle.dispatch_history.specs.Effect.{Effect};
 ghost use Rattle.dispatch_history.specs.Legal.{answered};
 ghost use Rattle.dispatch_history.specs.Reply.{reply_to};
-ghost use Rattle.dispatcher.specs.Answered.{AnswersCalm};
+ghost use Rattle.dispatcher.specs.Answered.{AnswersCalm, AnswersPumped};
+ghost use Rattle.dispatcher.specs.Queueing.{args_in, is_input};
 ghost use Rattle.live_input.specs.Answers.{SameClients};
 ghost use Rattle.live_input.specs.Seats.{vacant};
 ghost use Rattle.live_input.specs.Standing.{IsOfHeld, LiveIs, is_plain};
@@ -123,6 +124,11 @@ impl Live {
         ensures rest { self.new ≡ record self.old { dispatcher = self.new.dispatcher } }
         ensures err { OnErr result (self.new ≡ self.old) }
         ensures calm { AnswersCalm call.now self.old.dispatcher result }
+        ensures pumped { AnswersPumped call.now self.old.dispatcher result }
+        ensures pumps { is_input call.now ≡ true
+            → self.old.dispatcher.queue.pumps ≤ self.new.dispatcher.queue.pumps + 1 }
+        ensures room { OnOk result
+            (self.old.dispatcher.queue.spare ≤ self.new.dispatcher.queue.spare + args_in call.now) }
     {
         match self.dispatcher.apply(call) {
             Ok(reply) => {
@@ -143,6 +149,11 @@ impl Live {
         ensures named { self.new.named ≡ self.old.named }
         ensures clock { self.new.clock ≡ self.old.clock }
         ensures err { OnErr result (self.new ≡ self.old) }
+        ensures pumped { AnswersPumped call.now self.old.dispatcher result }
+        ensures pumps { is_input call.now ≡ true
+            → self.old.dispatcher.queue.pumps ≤ self.new.dispatcher.queue.pumps + 1 }
+        ensures room { OnOk result
+            (self.old.dispatcher.queue.spare ≤ self.new.dispatcher.queue.spare + args_in call.now) }
     {
         match self.apply(call) {
             Ok(_) => Ok(()),

@@ -12,6 +12,7 @@ use dispatcher::Dispatcher;
 pub(crate) fn release_after(dispatcher: &mut Dispatcher, call: &Call)
     ensures stays { (es : List Effect) → StandsFor es dispatcher.old → StandsFor es dispatcher.new }
     ensures displays { dispatcher.new.displays ≡ dispatcher.old.displays }
+    ensures room { dispatcher.new.queue ≡ dispatcher.old.queue }
     ensures all { (es : List Effect) → StandsFor es dispatcher.old → IsLiveChannel (receives_from call.now) es
         → AreReleasedBut (receives_from call.now) (is_tick call.now) es dispatcher.old → AreReleased es dispatcher.new }
 {

@@ -27,6 +27,12 @@ pub struct ClientWindow {
     pub region: Region,
     /// The flags that it asks of the dispatcher.
     pub flags: WindowFlags,
+    /// Whose it is, as any number. Windows of one owner trust each other.
+    pub owner: u32,
+    /// How much it hides of what is behind it.
+    pub opacity: Percent,
+    /// Whether a touch may go through it to a window of another owner.
+    pub occlusion: Occlusion,
 }
 
 impl ClientWindow {
@@ -40,6 +46,9 @@ impl ClientWindow {
             frame,
             region,
             flags,
+            owner,
+            opacity,
+            occlusion,
         } = self;
         Window {
             channel: client.channel,
@@ -47,9 +56,9 @@ impl ClientWindow {
             frame,
             region,
             flags,
-            owner: 0,
-            opacity: Percent::whole(),
-            occlusion: Occlusion::Block,
+            owner,
+            opacity,
+            occlusion,
         }
     }
 }

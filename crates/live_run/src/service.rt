@@ -8,6 +8,7 @@ use raw_events::codes::{
 use std::alloc::{AllocError, Global};
 use touch_mapper::Cook;
 use touch_region::{Rect, Region};
+use window_snapshot::{Occlusion, Percent};
 
 /// A service with one panel, whose positions are the pixels of its display.
 #[derive(Drop)]
@@ -50,6 +51,9 @@ pub(crate) fn window(alloc: Global, client: Client, frame: Rect) -> Option<Clien
         frame,
         region: Region::new(rects).ok()?,
         flags: bitflags::Flags::from_bits_retain(0),
+        owner: 0,
+        opacity: Percent::whole(),
+        occlusion: Occlusion::Block,
     })
 }
 

@@ -1,5 +1,5 @@
 -- What is due, and what devices deliver, in terms of the service.
-use Rattle.std.specs.Prelude.{◌≡◌, ◌⊎◌, ◌==◌, ◌≤◌, ◌-◌, ℕ, ℤ, true, false, List, [], ◌∷◌, slice_set, Option, None, Result, Err, IfOk, OnOk, OnErr}
+use Rattle.std.specs.Prelude.{◌≡◌, ◌⊎◌, ◌==◌, ◌≤◌, ◌-◌, ◌*◌, ℕ, ℤ, true, false, List, [], ◌∷◌, slice_set, Option, None, Result, Err, IfOk, IsOk, OnOk, OnErr}
 use Rattle.std.specs.declared.alloc.AllocError.{AllocError}
 use Rattle.input_types.specs.declared.message.Args.{Args}
 use Rattle.input_types.specs.declared.message.Args.TheVariants.{Reset}
@@ -10,6 +10,7 @@ use Rattle.key_layout.specs.Layout.{Codes}
 use Rattle.device_reader.specs.Cooked.{DevicePlan, Touches, Keys}
 use Rattle.device_table.specs.Table.{StandsAt, is_there, reader_of}
 use Rattle.dispatch_history.specs.Effect.{Effect}
+use Rattle.dispatcher.specs.Memory.{MayCount}
 use Rattle.live_input.specs.declared.refused.AddRefused.{AddRefused}
 use Rattle.live_input.specs.declared.refused.AddRefused.TheVariants.{BadSlots}
 use Rattle.live_input.specs.declared.refused.ArgsRefused.{ArgsRefused}
@@ -18,7 +19,8 @@ use Rattle.live_input.specs.Advancing.{Advances, Advanced}
 use Rattle.live_input.specs.Answers.{SameSeats}
 use Rattle.live_input.specs.Giving.{Gives, GivesEvent, HandedInPart, IsFed, notified}
 use Rattle.live_input.specs.Plugging.{Adds, is_slots}
-use Rattle.live_input.specs.Settling.{due_of}
+use Rattle.live_input.specs.Room.{GivesAtOnce, HasRoom, most_args}
+use Rattle.live_input.specs.Settling.{due_of, next_due, waits}
 use Rattle.live_input.specs.Standing.{IsMaskOfHeld, LiveIs}
 use Rattle.live_input.specs.State.{LiveState, latest}
 
@@ -37,6 +39,9 @@ pub record CaughtUp (now : ℕ) (old new : LiveState) (r : Result ℕ AllocError
       (ds : List ℕ) (es : List Effect) → LiveIs ds es old
       → OnErr r (HandedInPart ds (latest now old) es old.pending new
       ⊎ Advances ds (latest now old) (notified ds (latest now old) es old.pending) old new)
+  pub still :
+      (ds : List ℕ) (es : List Effect) → LiveIs ds es old → MayCount es → old.pending ≡ [] → next_due (latest now old) es ≡ None
+      → IsOk r
   pub clock : new.clock ≡ latest now old
   pub devices : new.devices ≡ old.devices
   pub seats : SameSeats old new
@@ -59,6 +64,10 @@ pub record Happened (now device kind code : ℕ) (value : ℤ) (old new : LiveSt
   pub fits :
       (ds : List ℕ) (es : List Effect) (plan : DevicePlan) (past : List RawEvent) → LiveIs ds es old
       → StandsAt plan past device old.devices → old.pending ≡ [] → IsFed plan past es → r ≡ Err Inconsistent → ⊥
+  pub reserved :
+      (n : ℕ) (ds : List ℕ) (es : List Effect) (plan : DevicePlan) (past : List RawEvent) → LiveIs ds es old
+      → StandsAt plan past device old.devices → waits es old ≡ false
+      → GivesAtOnce n es plan past (event (latest now old) device kind code value) r old new
   pub others : OthersStay device old new
   pub seats : SameSeats old new
   pub named : new.named ≡ old.named
@@ -72,6 +81,14 @@ pub record HandedIn (now : ℕ) (args : Args) (old new : LiveState) (r : Result 
   pub devices : new.devices ≡ old.devices
   pub seats : SameSeats old new
   pub named : new.named ≡ old.named
+
+-- the result of making room for events
+pub record Reserved (events : ℕ) (old new : LiveState) (r : Result (Unit {0}) AllocError) : Type 0 where
+  pub room : OnOk r (HasRoom (events * most_args) new)
+  pub rest : new ≡ record old { dispatcher = new.dispatcher }
+  pub stands : (ds : List ℕ) (es : List Effect) → LiveIs ds es old → LiveIs ds es new
+  pub again : HasRoom (events * most_args) old → IsOk r
+  pub err : OnErr r (new ≡ old)
 
 -- the result of removing a device
 pub record Removed (now device : ℕ) (old new : LiveState) (r : Result (Unit {0}) ArgsRefused) : Type 0 where

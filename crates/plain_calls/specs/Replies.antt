@@ -97,3 +97,8 @@ message_in (Err error) = None
 abbrev pub advance_status : Result ℕ AllocError → ℕ
 advance_status (Ok mask) = status.is_ok
 advance_status (Err error) = status.no_memory
+
+-- the status of making room
+abbrev pub reserve_status : Result (Unit {0}) AllocError → ℕ
+reserve_status (Ok done) = status.is_ok
+reserve_status (Err error) = status.no_memory

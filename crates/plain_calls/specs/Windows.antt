@@ -5,10 +5,11 @@ use Rattle.std.specs.declared.vec.Vec.{Vec}
 use Rattle.std.specs.Option.{option_map, option_and_then}
 use Rattle.touch_region.specs.declared.rectangle.Rect.{Rect}
 use Rattle.touch_region.specs.Region.{region_of}
+use Rattle.window_snapshot.specs.declared.occlusion.Occlusion.{Occlusion}
 use Rattle.live_input.specs.declared.windows.ClientWindow.{ClientWindow}
 use Rattle.plain_calls.specs.Calling.{ok_of}
 use Rattle.plain_calls.specs.Clients.{client_of}
-use Rattle.plain_calls.specs.Numbers.{display_of}
+use Rattle.plain_calls.specs.Numbers.{display_of, occlusion_of, percent_of}
 use Rattle.plain_calls.specs.declared.windows.PlainRect.{PlainRect}
 use Rattle.plain_calls.specs.declared.windows.PlainWindow.{PlainWindow}
 use Rattle.plain_calls.specs.declared.windows.Unread.{Unread}
@@ -22,14 +23,26 @@ rect_of r = record { left = r.left; top = r.top; right = r.right; bottom = r.bot
 abbrev pub region_from : List PlainRect → Option (List Rect)
 region_from rects = ok_of (region_of (map rect_of rects))
 
--- a window with this region
-abbrev pub window_with : PlainWindow → (display : ℕ) → (region : List Rect) → ClientWindow
-window_with w y region =
-    record { client = client_of w.client; display = y; frame = rect_of w.frame; region = region; flags = record { bits = w.flags } }
+-- a window with this opacity, occlusion and region
+abbrev pub window_with : PlainWindow → (display opacity : ℕ) → Occlusion → (region : List Rect) → ClientWindow
+window_with w y opacity occlusion region = record {
+  client = client_of w.client;
+  display = y;
+  frame = rect_of w.frame;
+  region = region;
+  flags = record { bits = w.flags };
+  owner = w.owner;
+  opacity = opacity;
+  occlusion = occlusion;
+}
 
--- a window with a valid display, and whose rectangles make a region
+-- a window whose display, opacity and occlusion are in their ranges, and whose rectangles make a region
 abbrev pub window_from : PlainWindow → List PlainRect → Option ClientWindow
-window_from w rects = option_and_then (λ y. option_map (window_with w y) (region_from rects)) (display_of w.display)
+window_from w rects =
+    option_and_then (λ y.
+    option_and_then (λ p.
+    option_and_then (λ o. option_map (window_with w y p o) (region_from rects)) (occlusion_of w.occlusion))
+    (percent_of w.opacity)) (display_of w.display)
 
 -- The windows, front to back. Each has as many rectangles as it says, taken after those of the windows before it;
 -- surplus rectangles are ignored.

@@ -1,10 +1,10 @@
 //! What is due, and what devices deliver.
 ghost use Rattle.std.specs.Prelude.{◌≡◌};
 ghost use Rattle.plain_calls.specs.Calling.{Reads, Replies, ok_of, answer_status, written};
-ghost use Rattle.plain_calls.specs.Driving.{IsDue, CaughtUp, Happened, HandedIn, Removed};
+ghost use Rattle.plain_calls.specs.Driving.{IsDue, CaughtUp, Happened, HandedIn, Removed, Reserved};
 ghost use Rattle.plain_calls.specs.Numbers.{moment_of, device_of};
 ghost use Rattle.plain_calls.specs.Plain.{args_of};
-ghost use Rattle.plain_calls.specs.Replies.{args_status, advance_status};
+ghost use Rattle.plain_calls.specs.Replies.{args_status, advance_status, reserve_status};
 
 use crate::message::PlainMessage;
 use crate::numbers::{device_of, moment_of};
@@ -91,4 +91,14 @@ pub fn remove_device(live: &mut Live, now_us: u64, device: u8) -> u32
         return RANGE;
     };
     args_status(live.remove_device(now, device))
+}
+
+/// Makes room for the next events, so many and of any devices. `MEMORY` if memory runs out: nothing changes.
+pub fn reserve(live: &mut Live, events: u16) -> u32
+    ensures { Replies reserve_status result (Reserved events live.old live.new) }
+{
+    match live.reserve(events) {
+        Ok(()) => OK,
+        Err(_) => MEMORY,
+    }
 }

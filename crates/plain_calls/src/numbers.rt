@@ -1,9 +1,10 @@
 //! Numbers that C hands in and gets back.
 ghost use Rattle.std.specs.Prelude.{◌≡◌};
 ghost use Rattle.gesture_verifier.specs.Told.{is_device};
-ghost use Rattle.plain_calls.specs.Numbers.{moment_of, device_of, display_of, limit_of, flag};
+ghost use Rattle.plain_calls.specs.Numbers.{moment_of, device_of, display_of, percent_of, occlusion_of, limit_of, flag};
 
 use input_types::{DeviceId, DisplayId, Limit, Moment};
+use window_snapshot::{Occlusion, Percent};
 
 /// The moment at so many microseconds, if they are at most 10^18.
 pub(crate) fn moment_of(us: u64) -> Option<Moment>
@@ -33,6 +34,24 @@ pub(crate) fn display_of(number: u8) -> Option<DisplayId>
         return None;
     }
     Some(DisplayId::new(number).unwrap())
+}
+
+/// The share of so many per cent, if they are at most 100.
+pub(crate) fn percent_of(number: u8) -> Option<Percent>
+    ensures { result ≡ percent_of number }
+{
+    if number > Percent::MAX {
+        return None;
+    }
+    Some(Percent::new(number).unwrap())
+}
+
+/// The occlusion of a number, if it is 0 to 2.
+pub(crate) fn occlusion_of(number: u8) -> Option<Occlusion>
+    ensures { result ≡ occlusion_of number }
+{
+    let occlusions = [Occlusion::Block, Occlusion::Opacity, Occlusion::Allow];
+    occlusions.get(usize::from(number)).copied()
 }
 
 /// The limit of so many microseconds, if they are 1,000 to 600,000,000.

@@ -4,11 +4,12 @@ ghost use Rattle.plain_calls.specs.Windows.{rect_of, region_from, window_with, w
 ghost use Rattle.plain_calls.specs.declared.windows.Unread.TheVariants.{Memory};
 
 use crate::client::PlainClient;
-use crate::numbers::display_of;
+use crate::numbers::{display_of, occlusion_of, percent_of};
 use input_types::DisplayId;
 use live_input::ClientWindow;
 use std::alloc::{AllocError, AllocFailed, Global};
 use touch_region::{Rect, Region, RegionError};
+use window_snapshot::{Occlusion, Percent};
 
 /// A rectangle of display pixels: `struct inputflinger_rect`. It contains the points with `left <= x < right` and
 /// `top <= y < bottom`.
@@ -34,6 +35,14 @@ pub struct PlainWindow {
     pub rects: u32,
     /// 0 to 3.
     pub display: u8,
+    /// Ignored. The members up to here are those of the first release.
+    pub unused: [u8; 7],
+    /// Whose it is. Windows of one owner trust each other.
+    pub owner: u32,
+    /// How much it hides of what is behind it, in per cent.
+    pub opacity: u8,
+    /// Whether a touch may go through it to a window of another owner: 0 if not, 1 if its opacity decides, and 2 if so.
+    pub occlusion: u8,
 }
 
 /// Why windows were not read.
@@ -92,9 +101,15 @@ fn region_from(alloc: Global, rects: &[PlainRect]) -> Result<Region, Unread>
 }
 
 impl PlainWindow {
-    /// The window on a display, with this region.
-    fn with(&self, display: DisplayId, region: Region) -> ClientWindow
-        ensures { result ≡ window_with self.now display region }
+    /// The window on a display, with this opacity, occlusion and region.
+    fn with(
+        &self,
+        display: DisplayId,
+        opacity: Percent,
+        occlusion: Occlusion,
+        region: Region,
+    ) -> ClientWindow
+        ensures { result ≡ window_with self.now display opacity occlusion region }
     {
         ClientWindow {
             client: self.client.read(),
@@ -102,6 +117,9 @@ impl PlainWindow {
             frame: rect_of(&self.frame),
             region,
             flags: bitflags::Flags::from_bits_retain(self.flags),
+            owner: self.owner,
+            opacity,
+            occlusion,
         }
     }
 
@@ -112,8 +130,14 @@ impl PlainWindow {
         let Some(display) = display_of(self.display) else {
             return Err(Unread::Range);
         };
+        let Some(opacity) = percent_of(self.opacity) else {
+            return Err(Unread::Range);
+        };
+        let Some(occlusion) = occlusion_of(self.occlusion) else {
+            return Err(Unread::Range);
+        };
         match region_from(alloc, rects) {
-            Ok(region) => Ok(self.with(display, region)),
+            Ok(region) => Ok(self.with(display, opacity, occlusion, region)),
             Err(error) => Err(error),
         }
     }

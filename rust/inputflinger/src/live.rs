@@ -65,6 +65,20 @@ pub mod window_flags {
     pub const SPY: u32 = 16;
     /// The fingers of one gesture are not divided between it and others.
     pub const PREVENT_SPLITTING: u32 = 32;
+    /// It is the system's own, and neither blocks nor marks a touch.
+    pub const TRUSTED_OVERLAY: u32 = 64;
+}
+
+/// Whether a touch may go through a window to a window of another owner behind it.
+#[derive(Clone, Copy, Debug, Default, PartialEq, Eq)]
+pub enum Occlusion {
+    /// It may not: the window behind is given no pointer there.
+    #[default]
+    Block = 0,
+    /// It may if the windows of the owner with this occlusion together hide at most 80 per cent there.
+    Opacity = 1,
+    /// It may.
+    Allow = 2,
 }
 
 /// A window of a client, which has one at most.
@@ -80,6 +94,12 @@ pub struct Window<'a> {
     pub region: &'a [Rect],
     /// Of [`window_flags`].
     pub flags: u32,
+    /// Whose it is, as a number of your choice. Windows of one owner trust each other.
+    pub owner: u32,
+    /// How much it hides of what is behind it, 0 to 100 per cent.
+    pub opacity: u8,
+    /// Whether a touch may go through it to a window of another owner.
+    pub occlusion: Occlusion,
 }
 
 /// How the raw positions of a touch panel become display pixels.
@@ -119,7 +139,8 @@ pub enum Body {
         action: Action,
         /// For `PointerDown` and `PointerUp` the place in `pointers` of the one that goes down or up, else 0.
         index: u8,
-        /// 0, or [`FLAG_CANCELED`](crate::FLAG_CANCELED).
+        /// 0 or [`FLAG_CANCELED`](crate::FLAG_CANCELED), and the marks [`FLAG_OBSCURED`](crate::FLAG_OBSCURED) and
+        /// [`FLAG_PARTLY_OBSCURED`](crate::FLAG_PARTLY_OBSCURED).
         flags: u32,
         /// All that are down, the one that goes down or up included.
         pointers: Vec<Pointer>,
@@ -268,14 +289,16 @@ fn found<T>(status: i32, told: T) -> Result<Option<T>, LiveError> {
 /// and each client is given its messages. It stays on its thread. Moments are microseconds, at most 10^18.
 ///
 /// ```
-/// use inputflinger::{Action, Body, Live, Message, Motion, Panel, Pointer, Rect, Window};
+/// use inputflinger::{Action, Body, Live, Message, Motion, Occlusion, Panel, Pointer, Rect, Window};
 ///
 /// let mut live = Live::new(5_000_000, [0; 8])?;
 /// let panel = Panel { x: (0, 1079), y: (0, 2399), width: 1080, height: 2400, rotation: 0 };
 /// let device = live.add_touch(0, 10, &panel)?;
 /// let client = live.open()?;
 /// let frame = Rect { left: 0, top: 100, right: 1080, bottom: 2400 };
-/// live.windows(0, &[Window { client, display: 0, frame, region: &[frame], flags: 0 }])?;
+/// let occlusion = Occlusion::Block;
+/// let window = Window { client, display: 0, frame, region: &[frame], flags: 0, owner: 0, opacity: 100, occlusion };
+/// live.windows(0, &[window])?;
 /// let down = Motion::new(device, Action::Down, &[Pointer { id: 0, x: 540, y: 1200 }]);
 /// live.args(1000, &Message::motion(0, down))?;
 /// let told = live.next(client)?.unwrap();
@@ -498,6 +521,10 @@ impl Live {
                 flags: window.flags,
                 rects: u32::try_from(window.region.len()).map_err(|_| LiveError::OutOfRange)?,
                 display: window.display,
+                unused: [0; 7],
+                owner: window.owner,
+                opacity: window.opacity,
+                occlusion: window.occlusion as u8,
             });
         }
         let mut named = 0;
@@ -593,6 +620,17 @@ impl Live {
         // SAFETY: as above.
         let status = unsafe { sys::inputflinger_live_due(&self.handle, &mut moment_us) };
         (status == sys::OK).then_some(moment_us)
+    }
+
+    /// Makes room for the next events of devices, so many and of any devices: none of them is `Waits`, if nothing waits
+    /// now and no other call comes between.
+    ///
+    /// # Errors
+    ///
+    /// `NoMemory`.
+    pub fn reserve(&mut self, events: u16) -> Result<(), LiveError> {
+        // SAFETY: as above.
+        done(unsafe { sys::inputflinger_live_reserve(&mut self.handle, events) })
     }
 
     /// Does all that is due up to now. The answer is the mask of the channels that were named unresponsive.

@@ -101,6 +101,10 @@ pub struct Window {
     pub flags: u32,
     pub rects: u32,
     pub display: u8,
+    pub unused: [u8; 7],
+    pub owner: u32,
+    pub opacity: u8,
+    pub occlusion: u8,
 }
 
 /// `struct inputflinger_axis`
@@ -275,6 +279,7 @@ extern "C" {
         seq: u64,
     ) -> i32;
     pub fn inputflinger_live_due(live: *const Live, moment_us: *mut u64) -> i32;
+    pub fn inputflinger_live_reserve(live: *mut Live, events: u16) -> i32;
     pub fn inputflinger_live_advance(live: *mut Live, now_us: u64, mask: *mut u64) -> i32;
     pub fn inputflinger_live_clock(live: *const Live, moment_us: *mut u64) -> i32;
     pub fn inputflinger_live_focused(live: *const Live, display: u8, client: *mut Client) -> i32;

@@ -1,7 +1,8 @@
 //! The answers of a live service.
 
 use inputflinger::{
-    window_flags, Action, Body, Key, Live, LiveError, Message, Motion, Panel, Pointer, Rect, Window,
+    window_flags, Action, Body, Key, Live, LiveError, Message, Motion, Occlusion, Panel, Pointer,
+    Rect, Window, FLAG_OBSCURED,
 };
 
 const PANEL: Panel = Panel {
@@ -26,7 +27,47 @@ fn window(client: inputflinger::Client, flags: u32) -> Window<'static> {
         frame: SCREEN,
         region: &[SCREEN],
         flags,
+        owner: 0,
+        opacity: 100,
+        occlusion: Occlusion::Block,
     }
+}
+
+/// The window of another owner, with an occlusion.
+fn over(client: inputflinger::Client, occlusion: Occlusion) -> Window<'static> {
+    Window {
+        owner: 1,
+        occlusion,
+        ..window(client, window_flags::NOT_TOUCHABLE)
+    }
+}
+
+#[test]
+fn a_window_of_another_owner_blocks_or_marks_a_touch() -> Result<(), LiveError> {
+    let mut live = Live::new(5_000_000, [0; 8])?;
+    let device = live.add_touch(0, 10, &PANEL)?;
+    let (upper, lower) = (live.open()?, live.open()?);
+    let finger = [Pointer { id: 0, x: 540, y: 1200 }];
+    for (now, occlusion, wanted) in [
+        (1_000, Occlusion::Block, None),
+        (2_000, Occlusion::Allow, Some(FLAG_OBSCURED)),
+    ] {
+        live.windows(now, &[over(upper, occlusion), window(lower, 0)])?;
+        for action in [Action::Down, Action::Up] {
+            live.args(now, &Message::motion(0, Motion::new(device, action, &finger)))?;
+            let flags = match live.next(lower)?.map(|told| told.body) {
+                Some(Body::Motion { flags, .. }) => Some(flags),
+                _ => None,
+            };
+            assert_eq!(flags, wanted);
+        }
+    }
+    let opaque = Window {
+        opacity: 101,
+        ..window(lower, 0)
+    };
+    assert_eq!(live.windows(3_000, &[opaque]), Err(LiveError::OutOfRange));
+    Ok(())
 }
 
 #[test]

@@ -2,6 +2,7 @@
 use Rattle.std.proofs.Common.{◌∙◌, w32, sym, ap, subst}
 use Rattle.std.proofs.lemmas.Int.{to_z-of_z}
 use Rattle.live_input.specs.Giving.{GivesEvent}
+use Rattle.live_input.specs.Room.{GivesAtOnce}
 use Rattle.live_input.specs.State.{latest}
 use Rattle.plain_calls.specs.Driving.{Happened, event}
 use Rattle.plain_calls.proofs.Reading.{read_as}
@@ -16,6 +17,8 @@ returns c =
       after = λ ds es plan past h st.
           subst (λ e. GivesEvent ds (latest now old) es plan past e c.event.result old new) same (c.event.ensures.after ds es plan past h st);
       fits = c.event.ensures.fits;
+      reserved = λ n ds es plan past h st quiet.
+          subst (λ e. GivesAtOnce n es plan past e c.event.result old new) same (c.event.ensures.reserved n ds es plan past h st quiet);
       others = c.event.ensures.others;
       seats = c.event.ensures.seats;
       named = c.event.ensures.named;

@@ -16,6 +16,10 @@ loop-row-preserved c =
       flags = 0;
       rects = 0;
       display = 0;
+      unused = [];
+      owner = 0;
+      opacity = 0;
+      occlusion = 0;
     } in
     let w : PlainWindow = slice_index_or rows i none in
     let below : i < length rows = omega (arith, c.loop-row-test.true) in

@@ -1,7 +1,9 @@
 -- Everything due is done after what must still be handed in.
-use Rattle.std.proofs.Common.{inl, inr, ◌∙◌, sym, ap, subst}
+use Rattle.std.proofs.lemmas.Bool.{true≢false}
+use Rattle.std.proofs.Common.{inl, inr, ◌∙◌, sym, ap, arith, length, subst}
 use Rattle.live_input.specs.Advancing.{Advanced, Advances}
 use Rattle.live_input.specs.Giving.{HandedInPart, notified}
+use Rattle.live_input.specs.Settling.{next_due}
 use Rattle.live_input.specs.Standing.{IsMaskOfHeld, LiveIs}
 use Rattle.live_input.specs.State.{LiveState}
 use Rattle.live_input.proofs.Handing.{advanced_from, advances_from, live_later}
@@ -46,3 +48,18 @@ returns-in-Err-clause-err c = λ ds es h.
     inl
     (subst (λ n. HandedInPart ds n es old.pending new) c.raise-now.ensures.latest
     (subst (λ ps. HandedInPart ds c.raise-now.result es ps new) (ap (λ (s : LiveState). s.pending) rest) (c.in-Err.ensures.part ds es there)))
+
+pub returns-in-Ok-clause-still : goal.returns-in-Ok-clause-still
+returns-in-Ok-clause-still c = λ ds es h may none quiet.
+    let rest = c.raise-now.ensures.rest in
+    let there = subst (LiveIs ds es) (sym rest) (live_later ds es _ _ h) in
+    let same = ap (λ ps. notified ds c.raise-now.result es ps) (ap (λ (s : LiveState). s.pending) rest ∙ none) in
+    c.catch_up.ensures.still ds _ (c.in-Ok.ensures.after ds es there)
+    (ap (next_due c.raise-now.result) same ∙ ap (λ n. next_due n es) c.raise-now.ensures.latest ∙ quiet)
+
+pub returns-in-Err-clause-still : goal.returns-in-Err-clause-still
+returns-in-Err-clause-still c = λ ds es h may none quiet.
+    let rest = c.raise-now.ensures.rest in
+    let there = subst (LiveIs ds es) (sym rest) (live_later ds es _ _ h) in
+    let empty = ap length (ap (λ (s : LiveState). s.pending) rest ∙ none) in
+    absurd (true≢false (sym (c.in-Err.ensures.reserved ds es there (omega (arith, empty)) (omega (arith, empty, may)))))

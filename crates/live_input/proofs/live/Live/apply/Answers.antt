@@ -1,8 +1,10 @@
 -- A call that is made leaves what is kept beside the dispatcher.
-use Rattle.std.proofs.Common.{sym, ap, ◌∙◌, subst}
+use Rattle.std.proofs.Common.{◌+◌, ◌≤◌, sym, ap, ◌∙◌, subst}
 use Rattle.dispatch_history.specs.Legal.{answered}
 use Rattle.dispatcher.proofs.Following.{stands_with}
 use Rattle.dispatcher.specs.Dispatching.{IsAfter}
+use Rattle.dispatcher.specs.Queue.{Queue}
+use Rattle.dispatcher.specs.Queueing.{args_in}
 use Rattle.live_input.specs.Standing.{IsOfHeld, LiveIs}
 use Rattle.live_input.specs.State.{LiveState}
 use Rattle.live_input.proofs.Released.{from_live, release_but}
@@ -29,3 +31,23 @@ returns-in-Ok-clause-reply c = λ ds es h.
 pub returns-in-Err-clause-calm : goal.returns-in-Err-clause-calm
 returns-in-Err-clause-calm c = λ es after may calm.
     c.in-Err.ensures.calm es (subst (λ (s : LiveState). IsAfter es s.dispatcher) (sym c.self.view_is) after) may calm
+
+pub returns-in-Err-clause-pumped : goal.returns-in-Err-clause-pumped
+returns-in-Err-clause-pumped c = λ es after may is enough.
+    c.in-Err.ensures.pumped es (subst (λ (s : LiveState). IsAfter es s.dispatcher) (sym c.self.view_is) after) may is
+    (subst (λ (s : LiveState). 1 ≤ s.dispatcher.queue.pumps) (sym c.self.view_is) enough)
+
+pub returns-in-Ok-clause-pumps : goal.returns-in-Ok-clause-pumps
+returns-in-Ok-clause-pumps c = λ is.
+    subst (λ (s : LiveState). s.dispatcher.queue.pumps ≤ c.release_after.new.dispatcher.queue.pumps + 1) c.self.view_is
+    (subst (λ (q : Queue). c.self.inside.dispatcher.queue.pumps ≤ q.pumps + 1) (sym c.release_after.ensures.room) (c.apply.ensures.pumps is))
+
+pub returns-in-Err-clause-pumps : goal.returns-in-Err-clause-pumps
+returns-in-Err-clause-pumps c = λ is.
+    subst (λ (s : LiveState). s.dispatcher.queue.pumps ≤ c.apply.new.self.queue.pumps + 1) c.self.view_is (c.apply.ensures.pumps is)
+
+pub returns-in-Ok-clause-room : goal.returns-in-Ok-clause-room
+returns-in-Ok-clause-room c =
+    subst (λ (s : LiveState). s.dispatcher.queue.spare ≤ c.release_after.new.dispatcher.queue.spare + args_in c.args.call.now) c.self.view_is
+    (subst (λ (q : Queue). c.self.inside.dispatcher.queue.spare ≤ q.spare + args_in c.args.call.now) (sym c.release_after.ensures.room)
+    c.in-Ok.ensures.ok.goes.room_is)

@@ -1,5 +1,9 @@
 -- What is handed in is dispatched.
-use Rattle.std.proofs.Common.{sym, ◌∙◌, inl, inr}
+use Rattle.std.proofs.lemmas.Bool.{true≢false}
+use Rattle.std.proofs.Common.{◌≡◌, ◌+◌, ◌-◌, ◌≤◌, ◌<◌, ◌^◌, arith, false, length, sym, ap, ◌∙◌, inl, inr}
+use Rattle.dispatch_history.specs.Effect.{Effect}
+use Rattle.live_input.specs.Giving.{notified}
+use Rattle.live_input.proofs.Roomy.{counted, idle, room_left}
 use Rattle.live_input.proofs.live.Live.deliver.Goals as goal
 
 pub returns-then-fits-clause-after : goal.returns-then-fits-clause-after
@@ -30,3 +34,30 @@ returns-in-Err-dispatch_waiting-clause-after c = λ ds es h.
 
 pub returns-in-Err-clause-after : goal.returns-in-Err-clause-after
 returns-in-Err-clause-after c = λ ds es h. inl (c.in-Err.ensures.part ds es h)
+
+pub returns-then-fits-clause-reserved : goal.returns-then-fits-clause-reserved
+returns-then-fits-clause-reserved c = λ n ds es h none room few.
+    let handed = c.in-Ok.ensures.after ds es h in
+    room_left n c.args.self.now c.hand_in.new.self c.dispatch_waiting.new.self (idle ds es _ h none) (ap length c.in-Ok.ensures.none) room
+    (c.hand_in.ensures.room ds es h) (c.dispatch_waiting.ensures.room ds _ handed)
+
+pub returns-else-fits-clause-reserved : goal.returns-else-fits-clause-reserved
+returns-else-fits-clause-reserved c = λ n ds es h none room few.
+    let handed = c.in-Ok.ensures.after ds es h in
+    room_left n c.args.self.now c.hand_in.new.self c.dispatch_waiting.new.self (idle ds es _ h none) (ap length c.in-Ok.ensures.none) room
+    (c.hand_in.ensures.room ds es h) (c.dispatch_waiting.ensures.room ds _ handed)
+
+pub returns-in-Err-dispatch_waiting-clause-reserved : goal.returns-in-Err-dispatch_waiting-clause-reserved
+returns-in-Err-dispatch_waiting-clause-reserved c = λ n ds es h none room few.
+    let handed = c.in-Ok.ensures.after ds es h in
+    let x = c.hand_in.ensures.room ds es h in
+    let empty = idle ds es _ h none in
+    let all = ap length c.in-Ok.ensures.none in
+    let first = counted ds es c.args.self.now h in
+    let now = counted ds (notified ds c.args.now es c.args.self.now.pending) c.hand_in.new.self handed in
+    let a = room.pumps in let w = x.waiting_is in let p = x.place_is in let m = x.pumps_are in
+    absurd (true≢false (sym (c.in-Err-dispatch_waiting.ensures.reserved ds _ handed (omega (arith, empty, all, a, w, m)) (omega (arith, empty, all, first, now, w, p, few)))))
+
+pub returns-in-Err-clause-reserved : goal.returns-in-Err-clause-reserved
+returns-in-Err-clause-reserved c = λ n ds es h none room few.
+    let a = room.spare in absurd (true≢false (sym (c.in-Err.ensures.reserved ds es h (omega (arith, a)) (omega (arith, few)))))
