@@ -10,7 +10,7 @@ use Rattle.dispatch_history.specs.Legal.{Legal}
 use Rattle.dispatch_history.specs.PointerOf.{AllRise}
 use Rattle.dispatch_history.proofs.LegalLaws.{effects_law}
 use Rattle.dispatch_history.proofs.WholeLaws.{removed_law, removed_state_law, whole_law, well_formed_law}
-use Rattle.dispatch_tables.specs.Lawful.{Lawful}
+use Rattle.dispatcher.specs.DispatchTables.Lawful.{Lawful}
 use Rattle.command_answers.specs.Whole.{AreWhole}
 
 pub lawful_whole : (displays : List ℕ) (es : List Effect) → Lawful displays es → AllRise (past_of es) → AreWhole displays es

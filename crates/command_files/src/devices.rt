@@ -9,11 +9,11 @@ ghost use Rattle.raw_events.specs.Line.{known};
 ghost use Rattle.command_files.specs.Cooked.{display_at, device_plan, plans_of};
 ghost use Rattle.command_files.specs.Devices.{devices_of};
 
+use device_reader::touch_mapper::Cook;
 use device_reader::{DeviceReader, Readers};
 use input_types::{DeviceId, DisplayId};
 use session_plan::{DeviceKind, Display, Plan};
 use std::alloc::{AllocError, Global};
-use touch_mapper::Cook;
 
 /// The display with this number, of those of a session.
 fn display_at(displays: &[Display], number: DisplayId) -> Display

@@ -8,7 +8,7 @@ use Rattle.input_types.specs.declared.motion.MotionAction.{MotionAction}
 use Rattle.input_types.specs.declared.motion.MotionAction.TheVariants.{Down, Up, Move, Cancel, PointerDown, PointerUp}
 use Rattle.input_types.specs.declared.message.Args.{Args}
 use Rattle.input_types.specs.declared.message.Args.TheVariants.{Motion as MotionArgs, Key, Reset}
-use Rattle.pointer_ids.specs.PointerIds.{assigned, least_free}
+use Rattle.device_reader.specs.PointerIds.PointerIds.{assigned, least_free}
 use Rattle.device_reader.specs.Cooked.{DevicePlan, Touches, Keys, device_args}
 use Rattle.device_reader.specs.CookedList.{cooked}
 

@@ -6,3 +6,6 @@ pub mod Examples
 pub mod All
 pub mod Moves
 pub mod Still
+pub mod SlotAccumulator
+pub mod PointerIds
+pub mod TouchMapper

@@ -3,11 +3,11 @@ use Rattle.std.specs.Prelude.{◌≡◌, ℕ, zero, suc, ◌+◌, ◌<◌, ◌�
 use Rattle.std.proofs.Common.{sym, ◌∙◌, ap, refl, arith, add-one}
 use Rattle.input_types.specs.declared.pointer.Pointer.{Pointer}
 use Rattle.input_types.specs.Pointers.{unused as no_pointer}
-use Rattle.slot_accumulator.specs.declared.slots.Row.{Row}
-use Rattle.pointer_ids.specs.declared.assigned.Held.{Held}
-use Rattle.pointer_ids.specs.Slots.{pointer_where}
-use Rattle.touch_mapper.specs.Cooking.{Cooking, pixel}
-use Rattle.touch_mapper.specs.Gesture.{held_ids, placed, placed_all}
+use Rattle.device_reader.specs.declared.slot_accumulator.slots.Row.{Row}
+use Rattle.device_reader.specs.declared.pointer_ids.assigned.Held.{Held}
+use Rattle.device_reader.specs.PointerIds.Slots.{pointer_where}
+use Rattle.device_reader.specs.TouchMapper.Cooking.{Cooking, pixel}
+use Rattle.device_reader.specs.TouchMapper.Gesture.{held_ids, placed, placed_all}
 
 -- the first pointers moved, the others not yet
 abbrev pub first_moved : ℕ → (Held → Held) → List Held → List Held

@@ -1,32 +1,32 @@
 -- What the end of a packet adds.
 use Rattle.std.specs.Prelude.{◌≡◌, ◌<◌, ◌&&◌, ℕ, Bool, true, false, nat_lt, List, [], ◌∷◌, ◌++◌, length, get_or, map}
 use Rattle.std.proofs.Common.{sym, ◌∙◌, ap, refl, subst, arith}
-use Rattle.slot_accumulator.specs.declared.slots.Row.{Row}
-use Rattle.slot_accumulator.specs.SlotContacts.{row_in}
-use Rattle.pointer_ids.specs.Assigned.{unused}
-use Rattle.pointer_ids.specs.Slots.{slot_of, is_written, contact_where, SameFingers, last_packet}
-use Rattle.pointer_ids.proofs.Taken.{none_in}
-use Rattle.pointer_ids.proofs.SameSlots.{same_named, same_refl}
+use Rattle.device_reader.specs.declared.slot_accumulator.slots.Row.{Row}
+use Rattle.device_reader.specs.SlotAccumulator.SlotContacts.{row_in}
+use Rattle.device_reader.specs.PointerIds.Assigned.{unused}
+use Rattle.device_reader.specs.PointerIds.Slots.{slot_of, is_written, contact_where, SameFingers, last_packet}
+use Rattle.device_reader.proofs.PointerIds.Taken.{none_in}
+use Rattle.device_reader.proofs.PointerIds.SameSlots.{same_named, same_refl}
 use Rattle.std.proofs.Math.Path.{fun_ext}
 use Rattle.bits32.specs.Set.{is_in}
 use Rattle.raw_events.specs.declared.event.RawEvent.{RawEvent}
 use Rattle.input_types.specs.declared.motion.Motion.{Motion}
 use Rattle.input_types.specs.declared.message.Args.{Args}
 use Rattle.input_types.specs.declared.message.Args.TheVariants.{Motion as MotionArgs}
-use Rattle.slot_accumulator.specs.declared.contacts.Contact.{Contact}
+use Rattle.device_reader.specs.declared.slot_accumulator.contacts.Contact.{Contact}
 use Rattle.raw_events.specs.Packets.{is_report}
-use Rattle.slot_accumulator.specs.SlotContacts.{contacts_at}
-use Rattle.pointer_ids.specs.declared.named.Named.{Named}
-use Rattle.pointer_ids.specs.Assigned.{Assignment}
-use Rattle.pointer_ids.specs.PointerIds.{named, named_after, is_cancelled, assigned}
-use Rattle.touch_mapper.specs.Gesture.{placed_all, gesture, as_args}
-use Rattle.touch_mapper.specs.GestureState.{GestureState}
+use Rattle.device_reader.specs.SlotAccumulator.SlotContacts.{contacts_at}
+use Rattle.device_reader.specs.declared.pointer_ids.named.Named.{Named}
+use Rattle.device_reader.specs.PointerIds.Assigned.{Assignment}
+use Rattle.device_reader.specs.PointerIds.PointerIds.{named, named_after, is_cancelled, assigned}
+use Rattle.device_reader.specs.TouchMapper.Gesture.{placed_all, gesture, as_args}
+use Rattle.device_reader.specs.TouchMapper.GestureState.{GestureState}
 use Rattle.device_reader.specs.Packets.{packets}
-use Rattle.slot_accumulator.specs.Table.{Table}
-use Rattle.slot_accumulator.specs.SlotContacts.{contacts_in, SlotsStandFor}
-use Rattle.touch_mapper.specs.Gesture.{after_packet}
-use Rattle.pointer_ids.specs.declared.assigned.Held.{Held}
-use Rattle.touch_mapper.specs.Cooking.{Cooking}
+use Rattle.device_reader.specs.SlotAccumulator.Table.{Table}
+use Rattle.device_reader.specs.SlotAccumulator.SlotContacts.{contacts_in, SlotsStandFor}
+use Rattle.device_reader.specs.TouchMapper.Gesture.{after_packet}
+use Rattle.device_reader.specs.declared.pointer_ids.assigned.Held.{Held}
+use Rattle.device_reader.specs.TouchMapper.Cooking.{Cooking}
 use Rattle.device_reader.specs.declared.touch.Touch.{Touch}
 use Rattle.device_reader.specs.Cooked.{TouchPlan, TouchStandsFor, TouchEnds, cancelled_at, pointers_at, touch_args}
 

@@ -13,9 +13,9 @@ use Rattle.input_types.specs.declared.message.Args.{Args}
 use Rattle.input_types.specs.declared.message.Args.TheVariants.{Key, Reset}
 use Rattle.input_types.specs.Gestures.{differ}
 use Rattle.input_types.specs.DeviceRule.{DeviceState, device_of, device_state, nothing_down, with_key}
-use Rattle.pointer_ids.specs.PointerIds.{assigned}
+use Rattle.device_reader.specs.PointerIds.PointerIds.{assigned}
 use Rattle.raw_events.specs.Packets.{is_report, is_drop, is_void}
-use Rattle.touch_mapper.specs.Gesture.{gesture, as_args}
+use Rattle.device_reader.specs.TouchMapper.Gesture.{gesture, as_args}
 use Rattle.key_layout.specs.Layout.{code_at}
 use Rattle.key_mapper.specs.Key.{KeyEvent, is_press, is_release, is_down, changes, key_of, meta_of}
 use Rattle.device_reader.specs.Packets.{since_drop, is_key, key_event, key_events}

@@ -9,21 +9,21 @@ use Rattle.raw_events.specs.declared.event.RawEvent.{RawEvent}
 use Rattle.raw_events.specs.Packets.{is_report}
 use Rattle.input_types.specs.declared.motion.Motion.{Motion}
 use Rattle.input_types.specs.declared.message.Args.{Args}
-use Rattle.slot_accumulator.specs.declared.contacts.Contact.{Contact}
-use Rattle.slot_accumulator.specs.declared.slots.Row.{Row}
-use Rattle.slot_accumulator.specs.Contacts.{AreContacts, put_at}
-use Rattle.slot_accumulator.specs.Table.{Table, is_kept}
-use Rattle.slot_accumulator.specs.SlotContacts.{contact, contacts_at, contacts_in, contacts_of, holds, row_in, SlotsStandFor}
-use Rattle.slot_accumulator.proofs.Listing.{are_contacts}
-use Rattle.pointer_ids.specs.declared.named.Named.{Named}
-use Rattle.pointer_ids.specs.declared.assigned.Held.{Held}
-use Rattle.pointer_ids.specs.Assigned.{unused}
-use Rattle.pointer_ids.specs.PointerIds.{named, named_after, assigned, some_palm}
-use Rattle.pointer_ids.specs.Slots.{slot_of, is_written, contact_where, pointer_where, SameFingers, last_packet}
-use Rattle.pointer_ids.proofs.SameSlots.{palms_where, still_assigned, still_in, still_same}
-use Rattle.touch_mapper.specs.Gesture.{placed_all, gesture, as_args, move_of}
-use Rattle.touch_mapper.specs.GestureState.{GestureState}
-use Rattle.touch_mapper.proofs.Still.{one_move}
+use Rattle.device_reader.specs.declared.slot_accumulator.contacts.Contact.{Contact}
+use Rattle.device_reader.specs.declared.slot_accumulator.slots.Row.{Row}
+use Rattle.device_reader.specs.SlotAccumulator.Contacts.{AreContacts, put_at}
+use Rattle.device_reader.specs.SlotAccumulator.Table.{Table, is_kept}
+use Rattle.device_reader.specs.SlotAccumulator.SlotContacts.{contact, contacts_at, contacts_in, contacts_of, holds, row_in, SlotsStandFor}
+use Rattle.device_reader.proofs.SlotAccumulator.Listing.{are_contacts}
+use Rattle.device_reader.specs.declared.pointer_ids.named.Named.{Named}
+use Rattle.device_reader.specs.declared.pointer_ids.assigned.Held.{Held}
+use Rattle.device_reader.specs.PointerIds.Assigned.{unused}
+use Rattle.device_reader.specs.PointerIds.PointerIds.{named, named_after, assigned, some_palm}
+use Rattle.device_reader.specs.PointerIds.Slots.{slot_of, is_written, contact_where, pointer_where, SameFingers, last_packet}
+use Rattle.device_reader.proofs.PointerIds.SameSlots.{palms_where, still_assigned, still_in, still_same}
+use Rattle.device_reader.specs.TouchMapper.Gesture.{placed_all, gesture, as_args, move_of}
+use Rattle.device_reader.specs.TouchMapper.GestureState.{GestureState}
+use Rattle.device_reader.proofs.TouchMapper.Still.{one_move}
 use Rattle.device_reader.specs.declared.touch.Touch.{Touch}
 use Rattle.device_reader.specs.Packets.{packets}
 use Rattle.device_reader.specs.Cooked.{TouchPlan, PacketsStandFor, TouchStandsFor, cancelled_at, pointers_at, touch_args}

@@ -12,14 +12,14 @@ use Rattle.input_types.specs.declared.message.Args.{Args}
 use Rattle.input_types.specs.declared.message.Args.TheVariants.{Motion as MotionArgs, Reset}
 use Rattle.input_types.specs.Gestures.{ids_of, same_ids, after_motion, flag_canceled}
 use Rattle.input_types.specs.DeviceRule.{DeviceState, device_state, is_of_device, nothing_down}
-use Rattle.pointer_ids.specs.declared.named.Named.{Named}
-use Rattle.pointer_ids.specs.declared.assigned.Held.{Held}
-use Rattle.pointer_ids.specs.PointerIds.{held, joined, by_id, assigned, named_after}
+use Rattle.device_reader.specs.declared.pointer_ids.named.Named.{Named}
+use Rattle.device_reader.specs.declared.pointer_ids.assigned.Held.{Held}
+use Rattle.device_reader.specs.PointerIds.PointerIds.{held, joined, by_id, assigned, named_after}
 use Rattle.raw_events.specs.Packets.{is_report}
-use Rattle.touch_mapper.specs.Cooking.{Cooking}
-use Rattle.touch_mapper.specs.Rising.{IsAbove, Rises}
-use Rattle.touch_mapper.specs.Gesture.{is_down as is_there, moved_all, kept, is_changed, placed, placed_all, up, down, motion, ups, downs, moves, gesture, after_motions, as_args}
-use Rattle.touch_mapper.proofs.Fits.{gesture_fits}
+use Rattle.device_reader.specs.TouchMapper.Cooking.{Cooking}
+use Rattle.device_reader.specs.TouchMapper.Rising.{IsAbove, Rises}
+use Rattle.device_reader.specs.TouchMapper.Gesture.{is_down as is_there, moved_all, kept, is_changed, placed, placed_all, up, down, motion, ups, downs, moves, gesture, after_motions, as_args}
+use Rattle.device_reader.proofs.TouchMapper.Fits.{gesture_fits}
 use Rattle.device_reader.specs.Packets.{packets}
 use Rattle.device_reader.specs.Cooked.{TouchPlan, pointers_at, cancelled_at}
 use Rattle.device_reader.specs.Rule.{only}

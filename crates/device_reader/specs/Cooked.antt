@@ -6,13 +6,13 @@ use Rattle.input_types.specs.declared.key.KeyArgs.{KeyArgs}
 use Rattle.input_types.specs.declared.message.Args.{Args}
 use Rattle.input_types.specs.declared.message.Args.TheVariants.{Key, Reset}
 use Rattle.raw_events.specs.Packets.{is_report, is_drop, is_void}
-use Rattle.slot_accumulator.specs.declared.contacts.Contact.{Contact}
-use Rattle.slot_accumulator.specs.SlotContacts.{contacts_at, contacts_in, row_in, SlotsStandFor}
-use Rattle.pointer_ids.specs.Assigned.{unused}
-use Rattle.pointer_ids.specs.Slots.{slot_of, is_written, contact_where, SameFingers, last_packet}
-use Rattle.pointer_ids.specs.PointerIds.{named_after, is_cancelled, assigned}
-use Rattle.touch_mapper.specs.Cooking.{Cooking}
-use Rattle.touch_mapper.specs.Gesture.{placed_all, gesture, as_args}
+use Rattle.device_reader.specs.declared.slot_accumulator.contacts.Contact.{Contact}
+use Rattle.device_reader.specs.SlotAccumulator.SlotContacts.{contacts_at, contacts_in, row_in, SlotsStandFor}
+use Rattle.device_reader.specs.PointerIds.Assigned.{unused}
+use Rattle.device_reader.specs.PointerIds.Slots.{slot_of, is_written, contact_where, SameFingers, last_packet}
+use Rattle.device_reader.specs.PointerIds.PointerIds.{named_after, is_cancelled, assigned}
+use Rattle.device_reader.specs.TouchMapper.Cooking.{Cooking}
+use Rattle.device_reader.specs.TouchMapper.Gesture.{placed_all, gesture, as_args}
 use Rattle.key_layout.specs.Layout.{Codes}
 use Rattle.key_mapper.specs.Key.{key_of}
 use Rattle.key_mapper.specs.Held.{Held, KeysStandFor}

@@ -4,3 +4,6 @@ pub mod All
 pub mod Cooked
 pub mod CookedList
 pub mod Rule
+pub mod SlotAccumulator
+pub mod PointerIds
+pub mod TouchMapper

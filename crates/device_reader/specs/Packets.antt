@@ -1,9 +1,9 @@
 -- The packets of a device's events, and the key events among them. Events stand with the newest first.
 use Rattle.std.specs.Prelude.{ℕ, Bool, nat_eq, List, [], ◌∷◌, if◌then◌else◌}
 use Rattle.raw_events.specs.declared.event.RawEvent.{RawEvent}
-use Rattle.slot_accumulator.specs.declared.contacts.Contact.{Contact}
+use Rattle.device_reader.specs.declared.slot_accumulator.contacts.Contact.{Contact}
 use Rattle.raw_events.specs.Packets.{is_report, is_drop, is_void}
-use Rattle.slot_accumulator.specs.SlotContacts.{contacts_at}
+use Rattle.device_reader.specs.SlotAccumulator.SlotContacts.{contacts_at}
 use Rattle.key_mapper.specs.Key.{KeyEvent}
 
 -- the events that are not void, since the last drop

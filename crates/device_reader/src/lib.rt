@@ -22,10 +22,13 @@
 #![tactic(auto)]
 
 mod packets;
+pub mod pointer_ids;
 mod reader;
 mod readers;
 mod recording;
+pub mod slot_accumulator;
 mod touch;
+pub mod touch_mapper;
 
 pub use reader::DeviceReader;
 pub use readers::Readers;

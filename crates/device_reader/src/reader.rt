@@ -6,16 +6,16 @@ ghost use Rattle.device_reader.specs.Cooked.{DeviceStandsFor, Touches, args_of, 
 ghost use Rattle.device_reader.specs.Rule.{KeepsRule};
 
 use crate::packets::is_drop;
+use crate::slot_accumulator::is_report;
 use crate::touch::Touch;
+use crate::touch_mapper::Cook;
 use input_types::{Args, DeviceId};
 use key_layout::Layout;
 use key_mapper::Keys;
 use raw_events::RawEvent;
 use raw_events::codes::EV_KEY;
-use slot_accumulator::is_report;
 use std::alloc::{AllocError, Global};
 use std::marker::Model;
-use touch_mapper::Cook;
 
 /// What is known of a device.
 #[derive(Drop)]

@@ -2,22 +2,22 @@
 ghost use Rattle.std.specs.Prelude.{◌≡◌, ◌<◌, ◌≤◌, ◌+◌, ℕ, true, List, [], ◌∷◌, ◌++◌, map, length, get_or, slice_set, vec_len, vec_capacity, OnOk, OnErr};
 ghost use Rattle.raw_events.specs.declared.event.RawEvent.{RawEvent as Event};
 ghost use Rattle.raw_events.specs.Packets.{is_report as ends_packet};
-ghost use Rattle.slot_accumulator.specs.SlotContacts.{row_in};
-ghost use Rattle.pointer_ids.specs.declared.assigned.Held.{Held as HeldView};
-ghost use Rattle.pointer_ids.specs.Assigned.{unused};
-ghost use Rattle.pointer_ids.specs.Slots.{is_written as was_written, pointer_where};
+ghost use Rattle.device_reader.specs.SlotAccumulator.SlotContacts.{row_in};
+ghost use Rattle.device_reader.specs.declared.pointer_ids.assigned.Held.{Held as HeldView};
+ghost use Rattle.device_reader.specs.PointerIds.Assigned.{unused};
+ghost use Rattle.device_reader.specs.PointerIds.Slots.{is_written as was_written, pointer_where};
 ghost use Rattle.input_types.specs.Pointers.{unused as no_pointer};
-ghost use Rattle.touch_mapper.specs.Cooking.{pixel};
-ghost use Rattle.touch_mapper.specs.Gesture.{placed_all};
+ghost use Rattle.device_reader.specs.TouchMapper.Cooking.{pixel};
+ghost use Rattle.device_reader.specs.TouchMapper.Gesture.{placed_all};
 ghost use Rattle.device_reader.specs.Cooked.{TouchPlan, TouchStandsFor, TouchEnds, touch_args};
 
+use crate::pointer_ids::Ids;
+use crate::slot_accumulator::{Change, Row, Slots, is_report};
+use crate::touch_mapper::{Cook, Gestures};
 use bits32::Bits32;
 use input_types::{Args, DeviceId};
-use pointer_ids::Ids;
 use raw_events::RawEvent;
-use slot_accumulator::{Change, Row, Slots, is_report};
 use std::alloc::AllocError;
-use touch_mapper::{Cook, Gestures};
 
 /// The slots of a touch device, the pointer ids of its last packet, and its gestures. It takes no memory.
 #[derive(Clone, Copy)]

@@ -6,12 +6,12 @@ ghost use Rattle.device_reader.specs.Reading.{Reading};
 ghost use Rattle.device_table.specs.Table.{StandsAt, IsFirstFree, is_free, is_there, reader_of};
 
 use device_reader::DeviceReader;
+use device_reader::touch_mapper::Cook;
 use input_types::{Args, DeviceId, DisplayId, Displays};
 use key_layout::Layout;
 use raw_events::RawEvent;
 use std::alloc::{AllocError, Global};
 use std::marker::Model;
-use touch_mapper::Cook;
 
 /// The readers of the devices that are plugged in, at most 8. Contracts see them as a list of eight, that of device 1
 /// first.

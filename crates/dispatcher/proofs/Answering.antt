@@ -9,9 +9,9 @@ use Rattle.bits32.specs.Set.{members, members_below}
 use Rattle.input_types.specs.declared.message.Args.{Args}
 use Rattle.input_types.specs.declared.message.Args.TheVariants.{Motion, Key, Reset}
 use Rattle.input_types.specs.DeviceRule.{DeviceState, after_args, device_of}
-use Rattle.inbound.specs.declared.change.Inconsistent.{Inconsistent as Refusal}
-use Rattle.inbound.specs.Down.{changed, is_key_down, state_at, Plans}
-use Rattle.inbound.proofs.Accepting.{says_down}
+use Rattle.dispatcher.specs.declared.inbound.change.Inconsistent.{Inconsistent as Refusal}
+use Rattle.dispatcher.specs.InboundArgs.Down.{changed, is_key_down, state_at, Plans}
+use Rattle.dispatcher.proofs.InboundArgs.Accepting.{says_down}
 use Rattle.dispatch_calls.specs.declared.reply.Reply.TheVariants.{Taken, Inconsistent}
 use Rattle.dispatch_history.specs.Queue.{accepted}
 use Rattle.dispatch_history.specs.Effect.{past_of}

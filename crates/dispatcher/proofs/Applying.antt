@@ -2,10 +2,10 @@
 use Rattle.std.proofs.Common.{◌≡◌, ◌≤◌, ℕ, List, Result, Ok, Err, OnOk, OnErr, sym, ap, subst}
 use Rattle.dispatch_calls.specs.declared.call.Call.{Call}
 use Rattle.dispatch_calls.specs.declared.call.Call.TheVariants.{Open, Windows, FocusOn, Notify, Pump, Tick, Receive, Finish, Pilfer, Remove}
-use Rattle.dispatch_channels.specs.Table.{but_for_room}
+use Rattle.dispatcher.specs.DispatchChannels.Table.{but_for_room}
 use Rattle.dispatch_history.specs.Effect.{Effect, past_of}
 use Rattle.dispatch_history.specs.History.{received}
-use Rattle.dispatch_tables.proofs.Ables.{live_number}
+use Rattle.dispatcher.proofs.DispatchTables.Ables.{live_number}
 use Rattle.dispatcher.specs.declared.tables.Tables.{Tables}
 use Rattle.dispatcher.specs.Dispatching.{Dispatching}
 use Rattle.dispatcher.specs.Dispatching.{IsAfter, StandsFor, with_room, with_args_room}

@@ -10,7 +10,7 @@ use Rattle.window_snapshot.specs.Named.{is_shown_on}
 use Rattle.window_snapshot.proofs.Masks.{mask_has-zero}
 use Rattle.focus_resolver.specs.Resolver.{FocusState, target_of, focus_of, is_focused, is_at}
 use Rattle.key_repeat.specs.Due.{due_of}
-use Rattle.key_tables.specs.Held.{target_sent}
+use Rattle.dispatcher.specs.KeyTables.Held.{target_sent}
 use Rattle.routing_rules.specs.Scene.{Scene, Moves}
 use Rattle.routing_rules.specs.Given.{changed, mark as rule_mark}
 use Rattle.route_split.specs.declared.mark.Mark.{Mark}
@@ -26,10 +26,10 @@ use Rattle.dispatch_history.specs.Effect.{Effect, past_of}
 use Rattle.dispatch_history.specs.Effects.{step}
 use Rattle.dispatch_history.specs.Reply.{pump_reply}
 use Rattle.dispatch_history.specs.Step.{scene}
-use Rattle.dispatch_channels.specs.Table.{Table, but_for_room, input_of}
-use Rattle.dispatch_round.specs.declared.round.Round.{Round}
-use Rattle.dispatch_round.specs.Rounds.{IsStepIn}
-use Rattle.window_covers.specs.Covers.{IsGiftOf}
+use Rattle.dispatcher.specs.DispatchChannels.Table.{Table, but_for_room, input_of}
+use Rattle.dispatcher.specs.declared.dispatch_round.round.Round.{Round}
+use Rattle.dispatcher.specs.DispatchRound.Rounds.{IsStepIn}
+use Rattle.dispatcher.specs.WindowCovers.Covers.{IsGiftOf}
 use Rattle.dispatcher.specs.Covering.{IsGiftAt}
 use Rattle.dispatcher.specs.Pointing.{step_at}
 use Rattle.dispatcher.specs.Queue.{Queue, QueueGoes}

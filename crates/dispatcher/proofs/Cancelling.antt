@@ -3,10 +3,10 @@ use Rattle.std.proofs.Common.{◌≤◌, ℕ, List, Option, Result, Ok, Err, OnE
 use Rattle.input_types.specs.declared.key.KeyMsg.{KeyMsg}
 use Rattle.input_types.specs.declared.message.Args.{Args}
 use Rattle.dispatch_calls.specs.declared.reply.Reply.{Reply}
-use Rattle.dispatch_round.specs.declared.round.Round.{Round}
+use Rattle.dispatcher.specs.declared.dispatch_round.round.Round.{Round}
 use Rattle.route_split.specs.declared.mark.Mark.{Mark}
-use Rattle.dispatch_channels.specs.Table.{Table}
-use Rattle.dispatch_channels.specs.Changes.{named_in}
+use Rattle.dispatcher.specs.DispatchChannels.Table.{Table}
+use Rattle.dispatcher.specs.DispatchChannels.Changes.{named_in}
 use Rattle.dispatcher.specs.declared.tables.Routing.{Routing}
 use Rattle.dispatcher.specs.Carrying.{CarriesOut, CarriesSome}
 use Rattle.dispatcher.specs.Anr.{Names}

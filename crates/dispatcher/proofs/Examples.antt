@@ -6,21 +6,21 @@ use Rattle.input_types.specs.declared.key.KeyArgs.{KeyArgs}
 use Rattle.input_types.specs.declared.key.KeyMsg.{KeyMsg}
 use Rattle.input_types.specs.declared.message.Args.{Args}
 use Rattle.input_types.specs.declared.message.Args.TheVariants.{Key, Reset}
-use Rattle.cancel_synthesis.specs.Tracked.{Tracked}
-use Rattle.inbound.specs.Kept.{Kept as Down}
-use Rattle.input_channel.specs.State.{opened_with}
+use Rattle.dispatcher.specs.CancelSynthesis.Tracked.{Tracked}
+use Rattle.dispatcher.specs.InboundArgs.Kept.{Kept as Down}
+use Rattle.dispatcher.specs.InputChannel.State.{opened_with}
 use Rattle.key_repeat.specs.Due.{Sent}
 use Rattle.route_split.specs.Tables.{no_table}
 use Rattle.dispatch_calls.specs.declared.call.Call.TheVariants.{Open, Notify, Pump, Tick, Receive, Finish, Pilfer, Remove}
 use Rattle.dispatch_calls.specs.declared.reply.Reply.TheVariants.{Opened, Full, Taken, Inconsistent, Dispatched, Repeated, Idle, Named, Empty, Gone, UnknownSeq, NotSpy}
 use Rattle.dispatch_history.specs.Effects.{step}
-use Rattle.dispatch_channels.specs.Table.{unsent}
+use Rattle.dispatcher.specs.DispatchChannels.Table.{unsent}
 use Rattle.dispatcher.specs.Answered.{NeedNotWait}
 use Rattle.dispatcher.specs.Queue.{waiting_after}
 use Rattle.dispatcher.specs.Knows.{Kept}
 use Rattle.dispatcher.specs.Replying.{reply_by}
 use Rattle.dispatcher.specs.Sending.{sent_target, repeat_then}
-use Rattle.dispatch_tables.specs.Delivery.{none_noted}
+use Rattle.dispatcher.specs.DispatchTables.Delivery.{none_noted}
 
 abbrev volume_up : Bool → KeyArgs
 volume_up down = record { device = 1; scan = 115; code = 24; meta = 0; down = down }

@@ -24,9 +24,9 @@ use Rattle.dispatch_calls.specs.declared.call.Call.TheVariants.{Pump}
 use Rattle.dispatch_calls.specs.declared.reply.Reply.TheVariants.{Dispatched}
 use Rattle.dispatch_history.specs.Effect.{Effect}
 use Rattle.dispatch_history.specs.Step.{scene}
-use Rattle.dispatch_round.specs.Rounds.{IsStepIn}
-use Rattle.window_covers.specs.declared.gift.Gift.{Gift}
-use Rattle.window_covers.specs.Covers.{IsGiftOf, option_at}
+use Rattle.dispatcher.specs.DispatchRound.Rounds.{IsStepIn}
+use Rattle.dispatcher.specs.declared.window_covers.gift.Gift.{Gift}
+use Rattle.dispatcher.specs.WindowCovers.Covers.{IsGiftOf, option_at}
 use Rattle.dispatcher.specs.Covering.{IsGiftIn, IsGiftAt}
 use Rattle.dispatcher.specs.Knows.{Kept, KeptStandsFor}
 use Rattle.dispatcher.specs.Pointing.{step_at}

@@ -5,7 +5,7 @@ use Rattle.input_types.specs.declared.motion.Motion.{Motion}
 use Rattle.window_snapshot.specs.Mask.{mask_has}
 use Rattle.focus_resolver.specs.Resolver.{target_of}
 use Rattle.key_repeat.specs.Due.{Sent}
-use Rattle.key_tables.specs.Repeats.{repeat_after, repeat_next}
+use Rattle.dispatcher.specs.KeyTables.Repeats.{repeat_after, repeat_next}
 use Rattle.dispatch_calls.specs.declared.call.Call.{Call}
 use Rattle.dispatch_calls.specs.declared.reply.Reply.{Reply}
 use Rattle.routing_rules.specs.Given.{mark as rule_mark}
@@ -20,10 +20,10 @@ use Rattle.dispatch_history.specs.Effects.{step}
 use Rattle.dispatch_history.specs.PointerOf.{RisesIn}
 use Rattle.dispatch_history.specs.Reply.{reply_to}
 use Rattle.dispatch_history.specs.Step.{scene}
-use Rattle.dispatch_channels.specs.Table.{Table, but_for_room}
-use Rattle.dispatch_round.specs.declared.round.Round.{Round}
-use Rattle.dispatch_round.specs.Rounds.{IsStepIn, sent_in}
-use Rattle.dispatch_round.specs.Outgoing.{SendsAll}
+use Rattle.dispatcher.specs.DispatchChannels.Table.{Table, but_for_room}
+use Rattle.dispatcher.specs.declared.dispatch_round.round.Round.{Round}
+use Rattle.dispatcher.specs.DispatchRound.Rounds.{IsStepIn, sent_in}
+use Rattle.dispatcher.specs.DispatchRound.Outgoing.{SendsAll}
 use Rattle.dispatcher.specs.Covering.{CoversGo, IsGiftAt}
 use Rattle.dispatcher.specs.Pointing.{step_at}
 use Rattle.dispatcher.specs.Queue.{Queue, QueueGoes}

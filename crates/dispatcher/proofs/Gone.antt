@@ -1,8 +1,8 @@
 -- No message is let go, and no naming.
 use Rattle.std.proofs.Common.{◌≡◌, ◌-◌, ℕ, zero, suc, nat_lt, Bool, true, false, cond, List, [], ◌∷◌, ◌++◌, get_or, set, refl, sym, ap, ◌∙◌}
-use Rattle.input_channel.specs.State.{ChannelState, opened_with, received_one, passed}
-use Rattle.dispatch_channels.specs.Table.{Table, channel_of, with_channel, but_for_room}
-use Rattle.dispatch_channels.specs.Changes.{Opens, new_channel, finished_at, finished_in, named_in}
+use Rattle.dispatcher.specs.InputChannel.State.{ChannelState, opened_with, received_one, passed}
+use Rattle.dispatcher.specs.DispatchChannels.Table.{Table, channel_of, with_channel, but_for_room}
+use Rattle.dispatcher.specs.DispatchChannels.Changes.{Opens, new_channel, finished_at, finished_in, named_in}
 use Rattle.dispatcher.specs.Tables.{LetsNoneGo}
 use Rattle.dispatcher.proofs.Rooms.{channel_bare}
 

@@ -7,8 +7,8 @@ use Rattle.input_types.specs.declared.message.Body.{Body}
 use Rattle.input_types.specs.declared.message.Body.TheVariants.{Motion as MotionBody, Key}
 use Rattle.focus_resolver.specs.Resolver.{focus_if, is_at}
 use Rattle.key_repeat.specs.Due.{Sent}
-use Rattle.cancel_synthesis.specs.Tracked.{pointers_of}
-use Rattle.cancel_synthesis.specs.Laws.{pointers_sent, keys_sent}
+use Rattle.dispatcher.specs.CancelSynthesis.Tracked.{pointers_of}
+use Rattle.dispatcher.specs.CancelSynthesis.Laws.{pointers_sent, keys_sent}
 use Rattle.routing_rules.specs.Cover.{under, under_all}
 use Rattle.routing_rules.specs.Marks.{covered}
 use Rattle.routing_rules.specs.Outgoing.{sent_with, devices}
@@ -20,13 +20,13 @@ use Rattle.dispatch_history.specs.Effect.{Effect, past_of}
 use Rattle.dispatch_history.specs.Effects.{step, said_at}
 use Rattle.dispatch_history.specs.Said.{motion_from}
 use Rattle.dispatch_history.specs.Step.{marks, scene}
-use Rattle.dispatch_tables.specs.Lawful.{Lawful}
-use Rattle.key_tables.specs.Held.{KeysAre, key_messages}
-use Rattle.key_tables.specs.Repeats.{RepeatIs, repeat_next}
-use Rattle.key_tables.proofs.Focusing.{focus_left}
-use Rattle.key_tables.proofs.Lasting.{keys_step, keys_at_first}
-use Rattle.key_tables.proofs.Repeating.{repeat_step, repeat_left}
-use Rattle.key_tables.proofs.Saying.{said_parts}
+use Rattle.dispatcher.specs.DispatchTables.Lawful.{Lawful}
+use Rattle.dispatcher.specs.KeyTables.Held.{KeysAre, key_messages}
+use Rattle.dispatcher.specs.KeyTables.Repeats.{RepeatIs, repeat_next}
+use Rattle.dispatcher.proofs.KeyTables.Focusing.{focus_left}
+use Rattle.dispatcher.proofs.KeyTables.Lasting.{keys_step, keys_at_first}
+use Rattle.dispatcher.proofs.KeyTables.Repeating.{repeat_step, repeat_left}
+use Rattle.dispatcher.proofs.KeyTables.Saying.{said_parts}
 use Rattle.dispatcher.specs.Pointing.{step_at, mark_at}
 use Rattle.dispatcher.specs.Laws.{InputLaw, InputFirst, InputQuiet, KeyingQuiet}
 use Rattle.dispatcher.proofs.Pointed.{pointers_law, pointers_first}

@@ -10,8 +10,8 @@ use Rattle.window_snapshot.specs.Mask.{mask_has}
 use Rattle.window_snapshot.proofs.Masks.{mask_has-zero, mask_has_channel}
 use Rattle.focus_resolver.specs.Resolver.{target_of, is_at}
 use Rattle.key_repeat.specs.Due.{Sent, next_of, due_of, is_repeated, repeated, delay_after}
-use Rattle.key_tables.specs.Held.{one_sent, target_sent}
-use Rattle.key_tables.proofs.Sending.{repeat_read}
+use Rattle.dispatcher.specs.KeyTables.Held.{one_sent, target_sent}
+use Rattle.dispatcher.proofs.KeyTables.Sending.{repeat_read}
 use Rattle.touch_state.specs.Touches.{Touches}
 use Rattle.route_split.specs.declared.mark.Mark.{Mark}
 use Rattle.route_split.specs.declared.mark.Mark.TheVariants.{NoOp}
@@ -22,11 +22,11 @@ use Rattle.dispatch_history.specs.Focus.{is_target}
 use Rattle.dispatch_history.specs.Reply.{reply_to, pump_reply, is_due}
 use Rattle.dispatch_history.specs.Effects.{step}
 use Rattle.dispatch_history.specs.Step.{marks, scene}
-use Rattle.dispatch_channels.specs.Table.{Table, input_of}
-use Rattle.dispatch_round.specs.declared.round.Round.{Round}
-use Rattle.dispatch_round.specs.Rounds.{IsStepIn}
-use Rattle.dispatch_round.proofs.Ruling.{quiet_sent}
-use Rattle.window_covers.specs.Covers.{CoverTable}
+use Rattle.dispatcher.specs.DispatchChannels.Table.{Table, input_of}
+use Rattle.dispatcher.specs.declared.dispatch_round.round.Round.{Round}
+use Rattle.dispatcher.specs.DispatchRound.Rounds.{IsStepIn}
+use Rattle.dispatcher.proofs.DispatchRound.Ruling.{quiet_sent}
+use Rattle.dispatcher.specs.WindowCovers.Covers.{CoverTable}
 use Rattle.dispatcher.specs.Pointing.{step_at}
 use Rattle.dispatcher.specs.Queue.{Queue, QueueGoes}
 use Rattle.dispatcher.specs.Knows.{Kept, KeptStandsFor}

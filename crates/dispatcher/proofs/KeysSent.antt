@@ -13,14 +13,14 @@ use Rattle.dispatch_history.specs.Effect.{Effect, past_of}
 use Rattle.dispatch_history.specs.Effects.{step}
 use Rattle.dispatch_history.specs.Focus.{key_target, is_target}
 use Rattle.dispatch_history.specs.Delivery.{able}
-use Rattle.key_tables.specs.Focused.{FocusIs}
-use Rattle.key_tables.specs.Held.{key_messages, target_sent}
-use Rattle.key_tables.specs.Repeats.{RepeatIs, repeat_next}
-use Rattle.key_tables.proofs.Focusing.{focus_read}
-use Rattle.key_tables.proofs.Sending.{keys_quiet, target_sent_law}
-use Rattle.key_tables.proofs.Repeating.{repeat_step, repeat_left}
-use Rattle.dispatch_tables.specs.Lawful.{Lawful}
-use Rattle.dispatch_round.specs.Bodies.{keys_to}
+use Rattle.dispatcher.specs.KeyTables.Focused.{FocusIs}
+use Rattle.dispatcher.specs.KeyTables.Held.{key_messages, target_sent}
+use Rattle.dispatcher.specs.KeyTables.Repeats.{RepeatIs, repeat_next}
+use Rattle.dispatcher.proofs.KeyTables.Focusing.{focus_read}
+use Rattle.dispatcher.proofs.KeyTables.Sending.{keys_quiet, target_sent_law}
+use Rattle.dispatcher.proofs.KeyTables.Repeating.{repeat_step, repeat_left}
+use Rattle.dispatcher.specs.DispatchTables.Lawful.{Lawful}
+use Rattle.dispatcher.specs.DispatchRound.Bodies.{keys_to}
 use Rattle.dispatcher.specs.Knows.{Kept, KeptStandsFor}
 use Rattle.dispatcher.specs.Sending.{sent_target, AreKeys, repeat_then}
 use Rattle.dispatcher.proofs.Inputs.{target_live}

@@ -1,6 +1,6 @@
 -- All that is kept goes one step on.
 use Rattle.std.proofs.Common.{◌≡◌, ℕ, true, List, subst}
-use Rattle.cancel_synthesis.specs.Tracked.{Tracked}
+use Rattle.dispatcher.specs.CancelSynthesis.Tracked.{Tracked}
 use Rattle.dispatch_calls.specs.declared.call.Call.{Call}
 use Rattle.dispatch_calls.specs.declared.reply.Reply.{Reply}
 use Rattle.dispatch_history.specs.History.{live}
@@ -8,9 +8,9 @@ use Rattle.dispatch_history.specs.Effect.{Effect, past_of}
 use Rattle.dispatch_history.specs.Effects.{step}
 use Rattle.dispatch_history.specs.PointerOf.{RisesIn}
 use Rattle.dispatch_history.specs.Reply.{reply_to}
-use Rattle.dispatch_tables.specs.Delivery.{DeliveryIs}
-use Rattle.dispatch_tables.proofs.Lawfuls.{lawful_step}
-use Rattle.dispatch_tables.proofs.Going.{delivery_law}
+use Rattle.dispatcher.specs.DispatchTables.Delivery.{DeliveryIs}
+use Rattle.dispatcher.proofs.DispatchTables.Lawfuls.{lawful_step}
+use Rattle.dispatcher.proofs.DispatchTables.Going.{delivery_law}
 use Rattle.dispatcher.specs.Queue.{QueueGoes}
 use Rattle.dispatcher.specs.Shown.{ShownGoes}
 use Rattle.dispatcher.specs.Pointing.{TouchesGo}

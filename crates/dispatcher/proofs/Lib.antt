@@ -55,3 +55,13 @@ pub mod RoomMade
 pub mod Moved
 pub mod Unfinished
 pub mod NotBefore
+pub mod InboundArgs
+pub mod PointersById
+pub mod CancelSynthesis
+pub mod InputChannel
+pub mod AnrTracker
+pub mod DispatchTables
+pub mod KeyTables
+pub mod WindowCovers
+pub mod DispatchChannels
+pub mod DispatchRound

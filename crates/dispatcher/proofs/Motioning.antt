@@ -14,9 +14,9 @@ use Rattle.route_split.specs.Seen.{Sees}
 use Rattle.route_split.specs.Tables.{Stands}
 use Rattle.routing_rules.specs.Watching.{is_watching}
 use Rattle.dispatch_calls.specs.declared.reply.Reply.TheVariants.{Dispatched}
-use Rattle.dispatch_channels.proofs.Picking.{mask_has-and}
-use Rattle.dispatch_round.specs.declared.round.Round.{Round}
-use Rattle.window_covers.specs.Covers.{IsGiftOf}
+use Rattle.dispatcher.proofs.DispatchChannels.Picking.{mask_has-and}
+use Rattle.dispatcher.specs.declared.dispatch_round.round.Round.{Round}
+use Rattle.dispatcher.specs.WindowCovers.Covers.{IsGiftOf}
 use Rattle.dispatcher.specs.declared.tables.Routing.{Routing}
 use Rattle.dispatcher.specs.Carrying.{CarriesFrom, IsOf}
 use Rattle.dispatcher.specs.Keying.{target_number}

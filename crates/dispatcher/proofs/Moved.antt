@@ -10,8 +10,8 @@ use Rattle.input_types.specs.declared.motion.Motion.{Motion}
 use Rattle.input_types.specs.declared.motion.MotionAction.TheVariants.{Move}
 use Rattle.input_types.specs.declared.pointer.Pointer.{Pointer}
 use Rattle.input_types.specs.Displays.{device_display}
-use Rattle.input_channel.specs.State.{ChannelState}
-use Rattle.cancel_synthesis.specs.Tracked.{Tracked}
+use Rattle.dispatcher.specs.InputChannel.State.{ChannelState}
+use Rattle.dispatcher.specs.CancelSynthesis.Tracked.{Tracked}
 use Rattle.window_snapshot.specs.declared.window.Window.{Window}
 use Rattle.window_snapshot.specs.Hits.{touched, is_watcher_at}
 use Rattle.window_snapshot.specs.Mask.{mask_has}
@@ -30,15 +30,15 @@ use Rattle.touch_state.specs.Touches.{Touches}
 use Rattle.touch_state.proofs.Sets.{and_false}
 use Rattle.route_split.specs.declared.mark.Mark.TheVariants.{NoOp}
 use Rattle.route_split.specs.Marking.{IsMark}
-use Rattle.key_tables.specs.Held.{bodies_tracked}
+use Rattle.dispatcher.specs.KeyTables.Held.{bodies_tracked}
 use Rattle.dispatch_calls.specs.declared.reply.Reply.TheVariants.{Dispatched}
-use Rattle.dispatch_channels.specs.Table.{Table, channel_of, input_of, but_for_room, NoLessRoom}
-use Rattle.dispatch_channels.proofs.Picking.{channel_low}
-use Rattle.dispatch_round.specs.declared.round.Round.{Round}
-use Rattle.dispatch_round.specs.Bodies.{keys_to}
-use Rattle.dispatch_round.specs.Light.{most_moves, HasLight, SpendsLight}
-use Rattle.dispatch_round.specs.Rounds.{IsLeft}
-use Rattle.window_covers.specs.Covers.{IsGiftOf}
+use Rattle.dispatcher.specs.DispatchChannels.Table.{Table, channel_of, input_of, but_for_room, NoLessRoom}
+use Rattle.dispatcher.proofs.DispatchChannels.Picking.{channel_low}
+use Rattle.dispatcher.specs.declared.dispatch_round.round.Round.{Round}
+use Rattle.dispatcher.specs.DispatchRound.Bodies.{keys_to}
+use Rattle.dispatcher.specs.DispatchRound.Light.{most_moves, HasLight, SpendsLight}
+use Rattle.dispatcher.specs.DispatchRound.Rounds.{IsLeft}
+use Rattle.dispatcher.specs.WindowCovers.Covers.{IsGiftOf}
 use Rattle.dispatcher.specs.declared.tables.Routing.{Routing}
 use Rattle.dispatcher.specs.Carrying.{CarriesFrom, IsOf}
 use Rattle.dispatcher.specs.Keying.{target_number}

@@ -34,18 +34,18 @@ use Rattle.dispatch_history.specs.Focus.{key_target}
 use Rattle.dispatch_history.specs.Step.{marks, scene, step_of}
 use Rattle.dispatch_history.specs.PointerOf.{RisesIn}
 use Rattle.dispatch_history.specs.Reply.{reply_to}
-use Rattle.key_tables.specs.Focused.{FocusIs, MasksAre, is_request}
-use Rattle.key_tables.proofs.Focusing.{focus_shown}
-use Rattle.dispatch_tables.specs.Lawful.{Lawful}
-use Rattle.dispatch_tables.specs.Silent.{is_silent, is_no_op}
-use Rattle.dispatch_tables.specs.Delivery.{Delivery, DeliveryIs, NotedIs}
-use Rattle.dispatch_tables.specs.Dues.{anr_in}
-use Rattle.dispatch_tables.proofs.Ables.{able_law}
-use Rattle.dispatch_tables.proofs.Duties.{anrs_law}
-use Rattle.dispatch_tables.proofs.Keeping.{kept_quiet}
-use Rattle.dispatch_tables.proofs.Lawfuls.{lawful_step}
-use Rattle.dispatch_tables.proofs.Silence.{silent_calls}
-use Rattle.dispatch_tables.proofs.NoOps.{delivery_no_op}
+use Rattle.dispatcher.specs.KeyTables.Focused.{FocusIs, MasksAre, is_request}
+use Rattle.dispatcher.proofs.KeyTables.Focusing.{focus_shown}
+use Rattle.dispatcher.specs.DispatchTables.Lawful.{Lawful}
+use Rattle.dispatcher.specs.DispatchTables.Silent.{is_silent, is_no_op}
+use Rattle.dispatcher.specs.DispatchTables.Delivery.{Delivery, DeliveryIs, NotedIs}
+use Rattle.dispatcher.specs.DispatchTables.Dues.{anr_in}
+use Rattle.dispatcher.proofs.DispatchTables.Ables.{able_law}
+use Rattle.dispatcher.proofs.DispatchTables.Duties.{anrs_law}
+use Rattle.dispatcher.proofs.DispatchTables.Keeping.{kept_quiet}
+use Rattle.dispatcher.proofs.DispatchTables.Lawfuls.{lawful_step}
+use Rattle.dispatcher.proofs.DispatchTables.Silence.{silent_calls}
+use Rattle.dispatcher.proofs.DispatchTables.NoOps.{delivery_no_op}
 use Rattle.dispatcher.specs.Shown.{Shown, ShownGoes, origin_at}
 use Rattle.dispatcher.specs.Pointing.{TouchesGo, step_at, mark_at}
 use Rattle.dispatcher.specs.Input.{InputGoes}

@@ -2,7 +2,7 @@
 use Rattle.std.proofs.Common.{◌≡◌, ℕ, max, Bool, true, false, not, nat_lt, cond, List, ◌-◌, None, refl, sym, ap, ◌∙◌, subst, lit<, if◌then◌else◌}
 use Rattle.std.proofs.lemmas.List.{set-get_or}
 use Rattle.window_snapshot.specs.Mask.{mask_has}
-use Rattle.input_channel.specs.State.{ChannelState, opened_with, may_finish, received_one, passed}
+use Rattle.dispatcher.specs.InputChannel.State.{ChannelState, opened_with, may_finish, received_one, passed}
 use Rattle.dispatch_calls.specs.declared.call.Call.{Call}
 use Rattle.dispatch_calls.specs.declared.call.Call.TheVariants.{Receive, Finish, Remove, Tick}
 use Rattle.dispatch_calls.specs.declared.reply.Reply.{Reply}
@@ -12,13 +12,13 @@ use Rattle.dispatch_history.specs.Effects.{step}
 use Rattle.dispatch_history.specs.History.{live, moment_of}
 use Rattle.dispatch_history.specs.PointerOf.{RisesIn}
 use Rattle.dispatch_history.specs.Reply.{reply_to, receive_reply, is_due}
-use Rattle.dispatch_tables.specs.Channel.{Hands}
-use Rattle.dispatch_tables.specs.Silent.{is_no_op}
-use Rattle.dispatch_tables.proofs.Keeping.{kept_pass}
+use Rattle.dispatcher.specs.DispatchTables.Channel.{Hands}
+use Rattle.dispatcher.specs.DispatchTables.Silent.{is_no_op}
+use Rattle.dispatcher.proofs.DispatchTables.Keeping.{kept_pass}
 use Rattle.window_snapshot.proofs.Masks.{mask_has-zero}
 use Rattle.focus_resolver.specs.Resolver.{target_of, is_at}
-use Rattle.dispatch_channels.specs.Table.{Table, channel_of, input_of, with_channel, due_moment}
-use Rattle.dispatch_channels.specs.Changes.{finished_in, removed_in}
+use Rattle.dispatcher.specs.DispatchChannels.Table.{Table, channel_of, input_of, with_channel, due_moment}
+use Rattle.dispatcher.specs.DispatchChannels.Changes.{finished_in, removed_in}
 use Rattle.dispatcher.specs.Queue.{Queue, QueueGoes}
 use Rattle.dispatcher.specs.Knows.{KeptStandsFor}
 use Rattle.dispatcher.specs.Staying.{StaysBut, delivery_of}

@@ -3,13 +3,13 @@ use Rattle.std.proofs.Common.{◌≡◌, ℕ, ◌+◌, ◌≤◌, nat_lt, Bool, 
 use Rattle.std.specs.Prelude.{filter, filter_map, fold, option_map}
 use Rattle.std.specs.List.{cons_option}
 use Rattle.input_types.specs.declared.message.Message.{Message}
-use Rattle.anr_tracker.specs.Due.{NoneBelow}
+use Rattle.dispatcher.specs.AnrTracker.Due.{NoneBelow}
 use Rattle.dispatch_history.specs.Delivery.{able, delivery, oldest}
 use Rattle.dispatch_history.specs.Due.{Due, due_at, first_due, sooner_due}
 use Rattle.dispatch_history.specs.Effect.{Effect, past_of}
 use Rattle.dispatch_history.specs.Effects.{channels}
 use Rattle.dispatch_history.specs.History.{limit_of, opened}
-use Rattle.dispatch_tables.specs.Dues.{due_moment}
+use Rattle.dispatcher.specs.DispatchTables.Dues.{due_moment}
 
 same_some : (x d : Due) → Some x ≡ Some d → x ≡ d
 same_some x d e = cc

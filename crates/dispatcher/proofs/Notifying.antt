@@ -2,9 +2,9 @@
 use Rattle.std.proofs.Common.{◌≡◌, ◌≤◌, ◌<◌, ◌^◌, ℕ, ◌+◌, Ok, Err, refl, sym, ap, subst, arith}
 use Rattle.input_types.specs.declared.message.Args.{Args}
 use Rattle.input_types.specs.DeviceRule.{device_of}
-use Rattle.inbound.specs.declared.change.Change.{Change}
-use Rattle.inbound.specs.declared.change.Inconsistent.{Inconsistent as Refusal}
-use Rattle.inbound.specs.Down.{PlansAt}
+use Rattle.dispatcher.specs.declared.inbound.change.Change.{Change}
+use Rattle.dispatcher.specs.declared.inbound.change.Inconsistent.{Inconsistent as Refusal}
+use Rattle.dispatcher.specs.InboundArgs.Down.{PlansAt}
 use Rattle.dispatch_calls.specs.declared.call.Call.TheVariants.{Notify}
 use Rattle.dispatch_calls.specs.declared.reply.Reply.TheVariants.{Taken, Inconsistent}
 use Rattle.dispatch_history.specs.PointerOf.{RisesIn}

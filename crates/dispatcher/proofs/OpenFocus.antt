@@ -6,10 +6,10 @@ use Rattle.window_snapshot.specs.Mask.{is_channel, mask_has, mask_with}
 use Rattle.window_snapshot.specs.Named.{is_focusable_on}
 use Rattle.window_snapshot.proofs.Masks.{mask_has-with, mask_has-zero, mask_has_channel}
 use Rattle.focus_resolver.specs.Resolver.{FocusState, all_displays, focus_if, is_at, may_by, is_focused, focus_of, target_of}
-use Rattle.dispatch_channels.proofs.Picking.{mask_has-and}
+use Rattle.dispatcher.proofs.DispatchChannels.Picking.{mask_has-and}
 use Rattle.dispatch_calls.specs.declared.call.Call.TheVariants.{Open}
 use Rattle.dispatch_calls.specs.declared.reply.Reply.TheVariants.{Opened}
-use Rattle.cancel_synthesis.specs.Ends.{keys_cancelled}
+use Rattle.dispatcher.specs.CancelSynthesis.Ends.{keys_cancelled}
 use Rattle.dispatch_history.specs.History.{snapshot}
 use Rattle.dispatch_history.specs.Effect.{Effect, past_of}
 use Rattle.dispatcher.specs.Knows.{Kept, KeptStandsFor}

@@ -1,18 +1,18 @@
 -- A step that opens a channel.
 use Rattle.std.proofs.Common.{◌≡◌, ◌≢◌, ◌≤◌, ◌<◌, ◌+◌, ◌-◌, ◌==◌, ◌||◌, ℕ, zero, suc, Bool, true, false, cond, List, [], ◌∷◌, ◌++◌, length, slice_index_or, refl, sym, ap, ◌∙◌, subst, inl, inr, arith}
 use Rattle.std.proofs.lemmas.Bool.{cases_Bool, or_cases, eqb-true, eqb-false, both_ways}
-use Rattle.cancel_synthesis.specs.Tracked.{pointers_of}
-use Rattle.input_channel.specs.State.{ChannelState, opened_with, published_at}
+use Rattle.dispatcher.specs.CancelSynthesis.Tracked.{pointers_of}
+use Rattle.dispatcher.specs.InputChannel.State.{ChannelState, opened_with, published_at}
 use Rattle.dispatch_calls.specs.declared.call.Call.TheVariants.{Open}
 use Rattle.dispatch_calls.specs.declared.reply.Reply.TheVariants.{Opened}
 use Rattle.dispatch_history.specs.History.{live}
 use Rattle.dispatch_history.specs.Effect.{Effect, past_of}
-use Rattle.dispatch_tables.specs.Channel.{Opens, Untouched, Holds, part_of, with_part}
-use Rattle.dispatch_tables.specs.Delivery.{DeliveryIs}
-use Rattle.dispatch_tables.proofs.Ables.{live_number}
-use Rattle.dispatch_tables.proofs.Keeping.{kept_unopened}
-use Rattle.dispatch_channels.specs.Table.{Table, opened, channel_of, input_of, unsent}
-use Rattle.dispatch_channels.specs.Changes.{new_channel}
+use Rattle.dispatcher.specs.DispatchTables.Channel.{Opens, Untouched, Holds, part_of, with_part}
+use Rattle.dispatcher.specs.DispatchTables.Delivery.{DeliveryIs}
+use Rattle.dispatcher.proofs.DispatchTables.Ables.{live_number}
+use Rattle.dispatcher.proofs.DispatchTables.Keeping.{kept_unopened}
+use Rattle.dispatcher.specs.DispatchChannels.Table.{Table, opened, channel_of, input_of, unsent}
+use Rattle.dispatcher.specs.DispatchChannels.Changes.{new_channel}
 use Rattle.dispatcher.specs.Input.{InputIs}
 use Rattle.dispatcher.specs.Knows.{Kept, KeptStandsFor}
 use Rattle.dispatcher.specs.Staying.{delivery_of}

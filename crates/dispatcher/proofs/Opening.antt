@@ -7,10 +7,10 @@ use Rattle.window_snapshot.specs.Mask.{is_channel, mask_has, mask_with}
 use Rattle.window_snapshot.proofs.Masks.{mask_has-with, mask_has-zero}
 use Rattle.focus_resolver.specs.Resolver.{FocusState, target_of, focus_of, is_focused}
 use Rattle.focus_resolver.specs.Changes.{IsOnlyIn}
-use Rattle.input_channel.specs.State.{opened_with}
-use Rattle.input_channel.specs.Order.{NoneAfter}
-use Rattle.cancel_synthesis.specs.Tracked.{Tracked, pointers_of}
-use Rattle.key_tables.specs.Focused.{change_sent, change_of}
+use Rattle.dispatcher.specs.InputChannel.State.{opened_with}
+use Rattle.dispatcher.specs.InputChannel.Order.{NoneAfter}
+use Rattle.dispatcher.specs.CancelSynthesis.Tracked.{Tracked, pointers_of}
+use Rattle.dispatcher.specs.KeyTables.Focused.{change_sent, change_of}
 use Rattle.input_types.specs.declared.motion.Motion.{Motion}
 use Rattle.routing_rules.specs.Outgoing.{devices}
 use Rattle.touch_state.specs.Touches.{Touches}
@@ -19,13 +19,13 @@ use Rattle.route_split.specs.declared.mark.Mark.TheVariants.{NoOp}
 use Rattle.dispatch_calls.specs.declared.call.Call.TheVariants.{Open}
 use Rattle.dispatch_calls.specs.declared.reply.Reply.TheVariants.{Opened, Full}
 use Rattle.dispatch_history.specs.Reply.{open_reply}
-use Rattle.dispatch_channels.proofs.Picking.{mask_has-and, channel_low}
-use Rattle.dispatch_channels.specs.Table.{Table, opened, channel_of, input_of}
-use Rattle.dispatch_channels.specs.Changes.{Opens, new_channel}
-use Rattle.dispatch_round.specs.declared.round.Round.{Round}
-use Rattle.dispatch_round.specs.Bodies.{keys_to}
-use Rattle.dispatch_round.specs.Rounds.{may_hear, keyed, is_concerned, count_of, most_motions, most_bodies, HasRoom, IsReady, IsTimely, sent_in}
-use Rattle.dispatch_round.specs.Outgoing.{SendsAll}
+use Rattle.dispatcher.proofs.DispatchChannels.Picking.{mask_has-and, channel_low}
+use Rattle.dispatcher.specs.DispatchChannels.Table.{Table, opened, channel_of, input_of}
+use Rattle.dispatcher.specs.DispatchChannels.Changes.{Opens, new_channel}
+use Rattle.dispatcher.specs.declared.dispatch_round.round.Round.{Round}
+use Rattle.dispatcher.specs.DispatchRound.Bodies.{keys_to}
+use Rattle.dispatcher.specs.DispatchRound.Rounds.{may_hear, keyed, is_concerned, count_of, most_motions, most_bodies, HasRoom, IsReady, IsTimely, sent_in}
+use Rattle.dispatcher.specs.DispatchRound.Outgoing.{SendsAll}
 use Rattle.dispatcher.specs.Shown.{ShownGoes}
 use Rattle.dispatcher.specs.Sending.{Refocuses, AreKeys, SendsFocus, sent_target}
 use Rattle.dispatcher.proofs.OpenLaws.{open_law, opens_law}

@@ -3,8 +3,8 @@ use Rattle.std.proofs.Common.{◌≡◌, ◌≤◌, ℕ, ◌==◌, max, Bool, tr
 use Rattle.std.proofs.lemmas.Bool.{eqb-true, eq-eqb}
 use Rattle.input_types.specs.declared.message.Message.{Message}
 use Rattle.window_snapshot.specs.Mask.{mask_with}
-use Rattle.input_channel.specs.State.{ChannelState, published_at, received_one}
-use Rattle.input_channel.specs.State.{has_late as late_at}
+use Rattle.dispatcher.specs.InputChannel.State.{ChannelState, published_at, received_one}
+use Rattle.dispatcher.specs.InputChannel.State.{has_late as late_at}
 use Rattle.dispatch_calls.specs.declared.call.Call.{Call}
 use Rattle.dispatch_calls.specs.declared.call.Call.TheVariants.{Receive, Finish}
 use Rattle.dispatch_calls.specs.declared.reply.Reply.{Reply}
@@ -13,18 +13,18 @@ use Rattle.dispatch_history.specs.History.{clock, live, moment_of, opened_after}
 use Rattle.dispatch_history.specs.Effect.{Effect, past_of}
 use Rattle.dispatch_history.specs.Effects.{step, said_at}
 use Rattle.dispatch_history.specs.Reply.{reply_to, receive_reply}
-use Rattle.dispatch_channels.specs.Table.{Table, opened, channel_of, with_channel}
-use Rattle.dispatch_channels.specs.Changes.{finished_at, finished_in}
-use Rattle.dispatch_tables.specs.Lawful.{Lawful}
-use Rattle.dispatch_tables.specs.Channel.{Receives, Finishes, Untouched, part_of, with_part, enqueued_all}
-use Rattle.dispatch_tables.specs.Masks.{live_mask_after, able_mask_after}
-use Rattle.dispatch_tables.specs.Delivery.{DeliveryIs, noted_after}
-use Rattle.dispatch_tables.proofs.Lawfuls.{lawful_step}
-use Rattle.dispatch_tables.proofs.Ables.{live_number}
-use Rattle.dispatch_tables.proofs.Going.{delivery_law}
-use Rattle.dispatch_tables.proofs.Keeping.{kept_facts}
-use Rattle.dispatch_tables.proofs.Silence.{silent_calls}
-use Rattle.dispatch_tables.proofs.Unopened.{done_live}
+use Rattle.dispatcher.specs.DispatchChannels.Table.{Table, opened, channel_of, with_channel}
+use Rattle.dispatcher.specs.DispatchChannels.Changes.{finished_at, finished_in}
+use Rattle.dispatcher.specs.DispatchTables.Lawful.{Lawful}
+use Rattle.dispatcher.specs.DispatchTables.Channel.{Receives, Finishes, Untouched, part_of, with_part, enqueued_all}
+use Rattle.dispatcher.specs.DispatchTables.Masks.{live_mask_after, able_mask_after}
+use Rattle.dispatcher.specs.DispatchTables.Delivery.{DeliveryIs, noted_after}
+use Rattle.dispatcher.proofs.DispatchTables.Lawfuls.{lawful_step}
+use Rattle.dispatcher.proofs.DispatchTables.Ables.{live_number}
+use Rattle.dispatcher.proofs.DispatchTables.Going.{delivery_law}
+use Rattle.dispatcher.proofs.DispatchTables.Keeping.{kept_facts}
+use Rattle.dispatcher.proofs.DispatchTables.Silence.{silent_calls}
+use Rattle.dispatcher.proofs.DispatchTables.Unopened.{done_live}
 use Rattle.dispatcher.specs.Queue.{QueueGoes}
 use Rattle.dispatcher.specs.Knows.{Kept, KeptStandsFor}
 use Rattle.dispatcher.specs.Staying.{delivery_of}

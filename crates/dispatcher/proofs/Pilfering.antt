@@ -5,7 +5,7 @@ use Rattle.input_types.specs.declared.key.KeyMsg.{KeyMsg}
 use Rattle.window_snapshot.specs.Mask.{mask_has}
 use Rattle.window_snapshot.specs.Window.{is_spy}
 use Rattle.focus_resolver.specs.Resolver.{FocusState, target_of, is_at}
-use Rattle.cancel_synthesis.specs.Ends.{keys_cancelled}
+use Rattle.dispatcher.specs.CancelSynthesis.Ends.{keys_cancelled}
 use Rattle.route_split.specs.Tables.{any_at}
 use Rattle.route_split.specs.declared.mark.Mark.TheVariants.{Pilfer as PilferMark}
 use Rattle.dispatch_calls.specs.declared.call.Call.TheVariants.{Pilfer}
@@ -13,7 +13,7 @@ use Rattle.dispatch_calls.specs.declared.reply.Reply.{Reply}
 use Rattle.dispatch_calls.specs.declared.reply.Reply.TheVariants.{Done, Gone, NotSpy, NothingHeld}
 use Rattle.dispatch_history.specs.Effect.{Effect}
 use Rattle.dispatch_history.specs.Reply.{reply_to}
-use Rattle.dispatch_channels.specs.Table.{input_of}
+use Rattle.dispatcher.specs.DispatchChannels.Table.{input_of}
 use Rattle.dispatcher.specs.Queue.{Queue}
 use Rattle.dispatcher.specs.Knows.{KeptStandsFor}
 use Rattle.dispatcher.proofs.Replies.{reply_law}

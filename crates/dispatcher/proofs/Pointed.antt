@@ -6,8 +6,8 @@ use Rattle.dispatch_calls.specs.declared.call.Call.{Call}
 use Rattle.dispatch_calls.specs.declared.reply.Reply.{Reply}
 use Rattle.routing_rules.specs.Outgoing.{listing, outgoing, after}
 use Rattle.routing_rules.specs.Fits.{Fits, last_then}
-use Rattle.cancel_synthesis.specs.Laws.{pointers_sent}
-use Rattle.cancel_synthesis.proofs.Tracking.{tracks_law}
+use Rattle.dispatcher.specs.CancelSynthesis.Laws.{pointers_sent}
+use Rattle.dispatcher.proofs.CancelSynthesis.Tracking.{tracks_law}
 use Rattle.dispatch_history.specs.History.{live, snapshot}
 use Rattle.dispatch_history.specs.Queue.{inbound, args_of}
 use Rattle.dispatch_history.specs.Effect.{Effect, past_of, last, down_ids}
@@ -17,8 +17,8 @@ use Rattle.dispatch_history.specs.Step.{marks, scene}
 use Rattle.dispatch_history.proofs.FitLaws.{held_then, fit_law, StepFacts, step_facts}
 use Rattle.dispatch_history.proofs.HolderLaws.{holder_law}
 use Rattle.dispatch_history.proofs.MotionLaws.{removes_other}
-use Rattle.dispatch_tables.specs.Lawful.{Lawful}
-use Rattle.dispatch_tables.proofs.Lawfuls.{lawful_last}
+use Rattle.dispatcher.specs.DispatchTables.Lawful.{Lawful}
+use Rattle.dispatcher.proofs.DispatchTables.Lawfuls.{lawful_last}
 use Rattle.dispatcher.specs.Pointing.{step_at, mark_at}
 use Rattle.dispatcher.specs.Laws.{PointersLaw, PointersFirst}
 

@@ -4,9 +4,9 @@ use Rattle.std.proofs.lemmas.Bool.{cases_cond}
 use Rattle.std.proofs.lemmas.List.{reverse-append, length-reverse, drop-append-le}
 use Rattle.input_types.specs.declared.message.Args.{Args}
 use Rattle.input_types.specs.DeviceRule.{after_args, device_of}
-use Rattle.inbound.specs.Kept.{Kept}
-use Rattle.inbound.specs.Down.{DevicesStandFor}
-use Rattle.inbound.proofs.Accepting.{accepts}
+use Rattle.dispatcher.specs.InboundArgs.Kept.{Kept}
+use Rattle.dispatcher.specs.InboundArgs.Down.{DevicesStandFor}
+use Rattle.dispatcher.proofs.InboundArgs.Accepting.{accepts}
 use Rattle.dispatch_calls.specs.declared.call.Call.{Call}
 use Rattle.dispatch_calls.specs.declared.call.Call.TheVariants.{Open, Windows, FocusOn, Notify, Pump, Tick, Receive, Finish, Pilfer, Remove}
 use Rattle.dispatch_calls.specs.declared.reply.Reply.{Reply}
@@ -16,8 +16,8 @@ use Rattle.dispatch_history.specs.Queue.{accepted, accepted_after, dispatches, d
 use Rattle.dispatch_history.specs.Effect.{Effect, past_of}
 use Rattle.dispatch_history.specs.KeySent.{repeat_due}
 use Rattle.dispatch_history.specs.Reply.{reply_to, pump_reply, is_due, id_bits, is_down}
-use Rattle.dispatch_tables.specs.Lawful.{Lawful}
-use Rattle.dispatch_tables.proofs.Lawfuls.{lawful_last, lawful_always}
+use Rattle.dispatcher.specs.DispatchTables.Lawful.{Lawful}
+use Rattle.dispatcher.proofs.DispatchTables.Lawfuls.{lawful_last, lawful_always}
 use Rattle.dispatcher.specs.Queue.{DownGoes, waiting_after}
 use Rattle.dispatcher.specs.Laws.{QueueLaw}
 

@@ -4,22 +4,22 @@ use Rattle.std.proofs.lemmas.Bool.{and_parts, leb-true}
 use Rattle.input_types.specs.Displays.{device_display}
 use Rattle.window_snapshot.specs.Mask.{mask_has}
 use Rattle.window_snapshot.specs.Named.{is_shown_on}
-use Rattle.anr_tracker.specs.Due.{IsFirst}
+use Rattle.dispatcher.specs.AnrTracker.Due.{IsFirst}
 use Rattle.dispatch_history.specs.History.{live, opened as opened_by, snapshot}
 use Rattle.dispatch_history.specs.Effect.{Effect, past_of}
 use Rattle.dispatch_history.specs.Delivery.{able, unresponsive}
 use Rattle.dispatch_history.specs.Due.{counts}
 use Rattle.dispatch_history.specs.Step.{scene}
 use Rattle.dispatch_history.proofs.HolderLaws.{holder_law}
-use Rattle.dispatch_tables.specs.Channel.{counts_of}
-use Rattle.dispatch_tables.specs.Dues.{due_moment}
-use Rattle.dispatch_tables.specs.Delivery.{DeliveryIs}
-use Rattle.dispatch_tables.proofs.Duties.{first_due_law}
-use Rattle.dispatch_tables.proofs.Going.{delivery_due}
-use Rattle.dispatch_tables.proofs.Keeping.{kept_counts, kept_oldest}
-use Rattle.dispatch_channels.specs.Table.{Table, opened, channel_of, due_moment as due_in_table}
-use Rattle.dispatch_channels.specs.Changes.{counts_in}
-use Rattle.key_tables.proofs.Sending.{repeat_read}
+use Rattle.dispatcher.specs.DispatchTables.Channel.{counts_of}
+use Rattle.dispatcher.specs.DispatchTables.Dues.{due_moment}
+use Rattle.dispatcher.specs.DispatchTables.Delivery.{DeliveryIs}
+use Rattle.dispatcher.proofs.DispatchTables.Duties.{first_due_law}
+use Rattle.dispatcher.proofs.DispatchTables.Going.{delivery_due}
+use Rattle.dispatcher.proofs.DispatchTables.Keeping.{kept_counts, kept_oldest}
+use Rattle.dispatcher.specs.DispatchChannels.Table.{Table, opened, channel_of, due_moment as due_in_table}
+use Rattle.dispatcher.specs.DispatchChannels.Changes.{counts_in}
+use Rattle.dispatcher.proofs.KeyTables.Sending.{repeat_read}
 use Rattle.dispatcher.specs.Knows.{Kept, KeptStandsFor}
 use Rattle.dispatcher.specs.Staying.{delivery_of}
 use Rattle.dispatcher.specs.ReadLaws.{ReadsChannelsLaw, ReadsMomentsLaw, ReadsTouchesLaw, ReadsInputsLaw}

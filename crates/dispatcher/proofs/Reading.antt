@@ -8,7 +8,7 @@ use Rattle.dispatch_calls.specs.declared.call.Call.TheVariants.{Receive}
 use Rattle.dispatch_calls.specs.declared.reply.Reply.TheVariants.{Gone}
 use Rattle.input_types.specs.declared.message.Args.{Args}
 use Rattle.input_types.specs.declared.message.Message.{Message}
-use Rattle.input_channel.specs.State.{next_of}
+use Rattle.dispatcher.specs.InputChannel.State.{next_of}
 use Rattle.dispatch_history.specs.Effect.{Effect}
 use Rattle.dispatch_history.specs.Reply.{reply_to, got_reply}
 use Rattle.dispatcher.specs.Knows.{Kept, KeptStandsFor}

@@ -6,7 +6,7 @@ use Rattle.window_snapshot.specs.Mask.{is_channel, mask_has}
 use Rattle.window_snapshot.specs.Named.{is_focusable_on}
 use Rattle.focus_resolver.specs.Resolver.{FocusState, may_by, target_of, focus_of, is_focused, is_at}
 use Rattle.focus_resolver.specs.Changes.{IsOnlyIn}
-use Rattle.cancel_synthesis.specs.Ends.{keys_cancelled}
+use Rattle.dispatcher.specs.CancelSynthesis.Ends.{keys_cancelled}
 use Rattle.routing_rules.specs.Scene.{stays}
 use Rattle.route_split.specs.declared.mark.Mark.{Mark}
 use Rattle.route_split.specs.declared.mark.Mark.TheVariants.{NoOp, Unnamed, Mute}
@@ -17,9 +17,9 @@ use Rattle.dispatch_history.specs.Effect.{Effect}
 use Rattle.dispatch_history.specs.PointerOf.{RisesIn}
 use Rattle.dispatch_history.specs.Reply.{reply_to, is_due}
 use Rattle.dispatch_history.specs.Step.{scene}
-use Rattle.dispatch_channels.specs.Table.{Table, input_of, due_moment}
-use Rattle.dispatch_channels.specs.Changes.{named_in}
-use Rattle.dispatch_round.specs.Rounds.{IsStepIn}
+use Rattle.dispatcher.specs.DispatchChannels.Table.{Table, input_of, due_moment}
+use Rattle.dispatcher.specs.DispatchChannels.Changes.{named_in}
+use Rattle.dispatcher.specs.DispatchRound.Rounds.{IsStepIn}
 use Rattle.dispatcher.specs.Pointing.{step_at}
 use Rattle.dispatcher.specs.Queue.{Queue}
 use Rattle.dispatcher.specs.Shown.{Shown, ShownGoes, origin_at}

@@ -10,8 +10,8 @@ use Rattle.dispatch_calls.specs.declared.reply.Reply.{Reply}
 use Rattle.dispatch_history.specs.History.{live, snapshot}
 use Rattle.dispatch_history.specs.Effect.{Effect, past_of}
 use Rattle.dispatch_history.specs.Effects.{step}
-use Rattle.key_tables.specs.Focused.{FocusIs, is_request}
-use Rattle.key_tables.proofs.Focusing.{focus_requested, focus_shown, focus_left, focus_masks}
+use Rattle.dispatcher.specs.KeyTables.Focused.{FocusIs, is_request}
+use Rattle.dispatcher.proofs.KeyTables.Focusing.{focus_requested, focus_shown, focus_left, focus_masks}
 use Rattle.dispatcher.specs.Sending.{Refocuses, FocusGoes}
 
 refocused : (ds : List ℕ) (call : Call) (answer : Reply) (es : List Effect) (f g : FocusState) (ws : List Window) (alive : ℕ) → is_request call ≡ false → FocusIs es f

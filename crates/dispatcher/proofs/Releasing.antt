@@ -3,15 +3,15 @@ use Rattle.std.proofs.Common.{◌≡◌, ◌≤◌, ◌-◌, ◌==◌, nat_le, �
 use Rattle.std.proofs.lemmas.List.{get_or-set_same, get_or-set_other}
 use Rattle.std.proofs.lemmas.Bool.{true≢false, eq-eqb, and_parts, leb-true}
 use Rattle.window_snapshot.specs.Mask.{mask_has}
-use Rattle.input_channel.specs.State.{ChannelState, opened_with, release_of, each_released, all_released}
-use Rattle.dispatch_channels.specs.Table.{Table, opened, channel_of, input_of, with_channel, but_for_room}
+use Rattle.dispatcher.specs.InputChannel.State.{ChannelState, opened_with, release_of, each_released, all_released}
+use Rattle.dispatcher.specs.DispatchChannels.Table.{Table, opened, channel_of, input_of, with_channel, but_for_room}
 use Rattle.dispatch_history.specs.Effect.{Effect, past_of, stream}
 use Rattle.dispatch_history.specs.Due.{anrs}
 use Rattle.dispatch_history.specs.History as history
 use Rattle.dispatch_history.specs.History.{live, received}
-use Rattle.dispatch_tables.specs.Channel.{MayGo, Holds}
-use Rattle.dispatch_tables.specs.Delivery.{noted_gone}
-use Rattle.dispatch_tables.proofs.Keeping.{held_less, kept_facts}
+use Rattle.dispatcher.specs.DispatchTables.Channel.{MayGo, Holds}
+use Rattle.dispatcher.specs.DispatchTables.Delivery.{noted_gone}
+use Rattle.dispatcher.proofs.DispatchTables.Keeping.{held_less, kept_facts}
 use Rattle.dispatcher.proofs.RoomLaws.{release_law, anrs_go_law}
 use Rattle.dispatcher.specs.Access.{is_opened, gone}
 use Rattle.dispatcher.specs.Dispatching.{Dispatching, StandsFor}

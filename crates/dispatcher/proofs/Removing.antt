@@ -17,18 +17,18 @@ use Rattle.dispatch_history.specs.Effect.{Effect, past_of}
 use Rattle.dispatch_history.specs.Effects.{step}
 use Rattle.dispatch_history.specs.Focus.{requested, asked, may_focus, focus, has_focus, key_target, is_target, focus_sent}
 use Rattle.dispatch_history.specs.Step.{scene}
-use Rattle.dispatch_tables.specs.Lawful.{Lawful}
-use Rattle.dispatch_tables.specs.Channel.{with_part}
-use Rattle.dispatch_tables.specs.Delivery.{DeliveryIs}
-use Rattle.dispatch_tables.proofs.Lawfuls.{lawful_step}
-use Rattle.key_tables.specs.Held.{key_messages}
-use Rattle.key_tables.specs.Repeats.{RepeatIs, repeat_next}
-use Rattle.key_tables.proofs.Sending.{keys_quiet, target_sent_law}
-use Rattle.key_tables.proofs.Repeating.{repeat_step, repeat_left}
-use Rattle.dispatch_channels.specs.Table.{Table, channel_of}
-use Rattle.dispatch_channels.specs.Changes.{removed_in}
-use Rattle.dispatch_round.specs.Outgoing.{SendsAll}
-use Rattle.cancel_synthesis.specs.Ends.{keys_cancelled}
+use Rattle.dispatcher.specs.DispatchTables.Lawful.{Lawful}
+use Rattle.dispatcher.specs.DispatchTables.Channel.{with_part}
+use Rattle.dispatcher.specs.DispatchTables.Delivery.{DeliveryIs}
+use Rattle.dispatcher.proofs.DispatchTables.Lawfuls.{lawful_step}
+use Rattle.dispatcher.specs.KeyTables.Held.{key_messages}
+use Rattle.dispatcher.specs.KeyTables.Repeats.{RepeatIs, repeat_next}
+use Rattle.dispatcher.proofs.KeyTables.Sending.{keys_quiet, target_sent_law}
+use Rattle.dispatcher.proofs.KeyTables.Repeating.{repeat_step, repeat_left}
+use Rattle.dispatcher.specs.DispatchChannels.Table.{Table, channel_of}
+use Rattle.dispatcher.specs.DispatchChannels.Changes.{removed_in}
+use Rattle.dispatcher.specs.DispatchRound.Outgoing.{SendsAll}
+use Rattle.dispatcher.specs.CancelSynthesis.Ends.{keys_cancelled}
 use Rattle.dispatcher.specs.Shown.{ShownGoes, origin_at}
 use Rattle.dispatcher.specs.Pointing.{step_at}
 use Rattle.dispatcher.specs.Input.{InputIs}

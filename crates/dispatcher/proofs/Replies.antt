@@ -4,8 +4,8 @@ use Rattle.std.specs.List.{list_any}
 use Rattle.input_types.specs.DeviceRule.{device_of}
 use Rattle.window_snapshot.specs.Mask.{mask_has}
 use Rattle.window_snapshot.specs.Window.{is_spy}
-use Rattle.inbound.proofs.Accepting.{says_down}
-use Rattle.input_channel.specs.State.{next_of, may_finish}
+use Rattle.dispatcher.proofs.InboundArgs.Accepting.{says_down}
+use Rattle.dispatcher.specs.InputChannel.State.{next_of, may_finish}
 use Rattle.key_repeat.specs.Due.{due_of}
 use Rattle.dispatch_calls.specs.declared.call.Call.TheVariants.{Open, Windows, FocusOn, Notify, Pump, Tick, Receive, Finish, Pilfer, Remove}
 use Rattle.dispatch_calls.specs.declared.reply.Reply.TheVariants.{Done, Named, Gone, UnknownSeq, NotSpy, NothingHeld}
@@ -16,16 +16,16 @@ use Rattle.dispatch_history.specs.Effects.{channels}
 use Rattle.dispatch_history.specs.KeySent.{repeat_due}
 use Rattle.dispatch_history.specs.Due.{mask_of}
 use Rattle.dispatch_history.specs.Reply.{open_reply, notify_reply, pump_reply, got_reply, receive_reply, finish_reply, is_due}
-use Rattle.dispatch_tables.specs.Lawful.{Lawful}
-use Rattle.dispatch_tables.specs.Channel.{Holds}
-use Rattle.dispatch_tables.specs.Dues.{due_moment}
-use Rattle.dispatch_tables.specs.Delivery.{Delivery, DeliveryIs, due_kept}
-use Rattle.dispatch_tables.proofs.Ables.{live_number}
-use Rattle.dispatch_tables.proofs.Duties.{named_law}
-use Rattle.dispatch_tables.proofs.Going.{delivery_due}
-use Rattle.dispatch_tables.proofs.Keeping.{kept_receive, kept_finish}
+use Rattle.dispatcher.specs.DispatchTables.Lawful.{Lawful}
+use Rattle.dispatcher.specs.DispatchTables.Channel.{Holds}
+use Rattle.dispatcher.specs.DispatchTables.Dues.{due_moment}
+use Rattle.dispatcher.specs.DispatchTables.Delivery.{Delivery, DeliveryIs, due_kept}
+use Rattle.dispatcher.proofs.DispatchTables.Ables.{live_number}
+use Rattle.dispatcher.proofs.DispatchTables.Duties.{named_law}
+use Rattle.dispatcher.proofs.DispatchTables.Going.{delivery_due}
+use Rattle.dispatcher.proofs.DispatchTables.Keeping.{kept_receive, kept_finish}
 use Rattle.route_split.specs.Tables.{any_at}
-use Rattle.key_tables.proofs.Sending.{repeat_read}
+use Rattle.dispatcher.proofs.KeyTables.Sending.{repeat_read}
 use Rattle.dispatcher.specs.Knows.{Kept, KeptStandsFor}
 use Rattle.dispatcher.specs.Replying.{late_by}
 use Rattle.dispatcher.specs.Laws.{ReplyLaw, TickReplyLaw}

@@ -3,16 +3,16 @@ use Rattle.std.proofs.Common.{◌≡◌, ◌≤◌, ◌-◌, ◌==◌, ℕ, Bool
 use Rattle.std.proofs.lemmas.Bool.{eq-eqb, eqb-true}
 use Rattle.std.proofs.lemmas.List.{length-map}
 use Rattle.window_snapshot.specs.Mask.{mask_has}
-use Rattle.input_channel.specs.State.{ChannelState, opened_with}
-use Rattle.cancel_synthesis.specs.Tracked.{Tracked, pointers_in}
+use Rattle.dispatcher.specs.InputChannel.State.{ChannelState, opened_with}
+use Rattle.dispatcher.specs.CancelSynthesis.Tracked.{Tracked, pointers_in}
 use Rattle.dispatch_history.specs.History.{live}
 use Rattle.dispatch_history.specs.Effect.{Effect, past_of}
 use Rattle.dispatch_history.specs.Due.{anrs}
-use Rattle.dispatch_tables.specs.Channel.{Holds}
-use Rattle.dispatch_tables.specs.Delivery.{DeliveryIs, NotedIs, noted_gone}
-use Rattle.dispatch_tables.proofs.Noting.{anrs_go_law as noted_go}
-use Rattle.dispatch_channels.specs.Table.{Table, opened, channel_of, input_of, unsent, with_channel, but_for_room}
-use Rattle.key_tables.specs.Held.{KeysAre}
+use Rattle.dispatcher.specs.DispatchTables.Channel.{Holds}
+use Rattle.dispatcher.specs.DispatchTables.Delivery.{DeliveryIs, NotedIs, noted_gone}
+use Rattle.dispatcher.proofs.DispatchTables.Noting.{anrs_go_law as noted_go}
+use Rattle.dispatcher.specs.DispatchChannels.Table.{Table, opened, channel_of, input_of, unsent, with_channel, but_for_room}
+use Rattle.dispatcher.specs.KeyTables.Held.{KeysAre}
 use Rattle.dispatcher.specs.Queue.{QueueIs}
 use Rattle.dispatcher.specs.Shown.{ShownIs}
 use Rattle.dispatcher.specs.Covering.{CoversAre}

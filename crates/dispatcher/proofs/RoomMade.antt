@@ -3,13 +3,13 @@ use Rattle.std.proofs.Common.{◌≡◌, ◌≢◌, ◌*◌, max, ◌≤◌, ◌
 use Rattle.std.proofs.lemmas.Bool.{cases_eq, eq-eqb, ne_eqb}
 use Rattle.std.proofs.lemmas.List.{get_or-set_same}
 use Rattle.window_snapshot.specs.Mask.{mask_has}
-use Rattle.input_channel.specs.State.{ChannelState, with_spare}
-use Rattle.cancel_synthesis.specs.Tracked.{with_spare as tracked_with_spare}
-use Rattle.cancel_synthesis.specs.Tracked.{Tracked}
-use Rattle.dispatch_channels.specs.Table.{Table, opened, channel_of, input_of, unsent, with_channel, with_room, but_for_room, NoLessRoom}
-use Rattle.dispatch_channels.proofs.Picking.{channel_low}
-use Rattle.dispatch_channels.proofs.Wholes.{channel_set_same}
-use Rattle.dispatch_round.proofs.Rooms.{no_less}
+use Rattle.dispatcher.specs.InputChannel.State.{ChannelState, with_spare}
+use Rattle.dispatcher.specs.CancelSynthesis.Tracked.{with_spare as tracked_with_spare}
+use Rattle.dispatcher.specs.CancelSynthesis.Tracked.{Tracked}
+use Rattle.dispatcher.specs.DispatchChannels.Table.{Table, opened, channel_of, input_of, unsent, with_channel, with_room, but_for_room, NoLessRoom}
+use Rattle.dispatcher.proofs.DispatchChannels.Picking.{channel_low}
+use Rattle.dispatcher.proofs.DispatchChannels.Wholes.{channel_set_same}
+use Rattle.dispatcher.proofs.DispatchRound.Rooms.{no_less}
 use Rattle.dispatcher.specs.declared.tables.Routing.{Routing}
 use Rattle.dispatcher.specs.Tables.{SameButRoom}
 use Rattle.dispatcher.specs.Roomy.{HasRoomFor, HasPumpRoom}

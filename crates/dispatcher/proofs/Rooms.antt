@@ -4,13 +4,13 @@ use Rattle.std.proofs.lemmas.List.{length-map}
 use Rattle.touch_state.specs.Touches.{Touches}
 use Rattle.focus_resolver.specs.Resolver.{FocusState}
 use Rattle.key_repeat.specs.Due.{Sent}
-use Rattle.input_channel.specs.State.{ChannelState, opened_with}
-use Rattle.cancel_synthesis.specs.Tracked.{Tracked}
+use Rattle.dispatcher.specs.InputChannel.State.{ChannelState, opened_with}
+use Rattle.dispatcher.specs.CancelSynthesis.Tracked.{Tracked}
 use Rattle.dispatch_history.specs.Effect.{Effect}
-use Rattle.dispatch_tables.specs.Channel.{Holds}
-use Rattle.dispatch_tables.specs.Delivery.{DeliveryIs}
-use Rattle.dispatch_channels.specs.Table.{Table, opened, channel_of, input_of, unsent, but_for_room}
-use Rattle.window_covers.specs.Covers.{CoverTable}
+use Rattle.dispatcher.specs.DispatchTables.Channel.{Holds}
+use Rattle.dispatcher.specs.DispatchTables.Delivery.{DeliveryIs}
+use Rattle.dispatcher.specs.DispatchChannels.Table.{Table, opened, channel_of, input_of, unsent, but_for_room}
+use Rattle.dispatcher.specs.WindowCovers.Covers.{CoverTable}
 use Rattle.dispatcher.specs.Queue.{Queue}
 use Rattle.dispatcher.specs.Shown.{Shown}
 use Rattle.dispatcher.specs.Input.{InputIs}

@@ -5,18 +5,18 @@ use Rattle.std.proofs.lemmas.List.{length-map}
 use Rattle.input_types.specs.declared.key.KeyMsg.{KeyMsg}
 use Rattle.input_types.specs.declared.message.Body.TheVariants.{Key}
 use Rattle.window_snapshot.specs.Mask.{mask_has}
-use Rattle.input_channel.specs.State.{ChannelState}
-use Rattle.cancel_synthesis.specs.Tracked.{Tracked, is_before, same_key, with_key, keys_after}
-use Rattle.cancel_synthesis.specs.Ends.{keys_cancelled, key_cancelled, of_device}
-use Rattle.cancel_synthesis.specs.Laws.{keys_sent}
-use Rattle.cancel_synthesis.proofs.KeyEnds.{device_keys_end}
-use Rattle.key_tables.specs.Held.{bodies_tracked}
-use Rattle.dispatch_channels.specs.Table.{Table, channel_of, input_of, but_for_room, NoLessRoom}
-use Rattle.dispatch_channels.proofs.Picking.{channel_low}
-use Rattle.dispatch_round.specs.declared.round.Round.{Round}
-use Rattle.dispatch_round.specs.Bodies.{keys_to}
-use Rattle.dispatch_round.specs.Rounds.{IsFew, IsLeft, HasMostRoom}
-use Rattle.dispatch_round.specs.Saying.{Spends}
+use Rattle.dispatcher.specs.InputChannel.State.{ChannelState}
+use Rattle.dispatcher.specs.CancelSynthesis.Tracked.{Tracked, is_before, same_key, with_key, keys_after}
+use Rattle.dispatcher.specs.CancelSynthesis.Ends.{keys_cancelled, key_cancelled, of_device}
+use Rattle.dispatcher.specs.CancelSynthesis.Laws.{keys_sent}
+use Rattle.dispatcher.proofs.CancelSynthesis.KeyEnds.{device_keys_end}
+use Rattle.dispatcher.specs.KeyTables.Held.{bodies_tracked}
+use Rattle.dispatcher.specs.DispatchChannels.Table.{Table, channel_of, input_of, but_for_room, NoLessRoom}
+use Rattle.dispatcher.proofs.DispatchChannels.Picking.{channel_low}
+use Rattle.dispatcher.specs.declared.dispatch_round.round.Round.{Round}
+use Rattle.dispatcher.specs.DispatchRound.Bodies.{keys_to}
+use Rattle.dispatcher.specs.DispatchRound.Rounds.{IsFew, IsLeft, HasMostRoom}
+use Rattle.dispatcher.specs.DispatchRound.Saying.{Spends}
 use Rattle.dispatcher.specs.declared.tables.Routing.{Routing}
 use Rattle.dispatcher.specs.declared.tables.Tables.{Tables}
 use Rattle.dispatcher.specs.Queue.{Queue}

@@ -29,20 +29,20 @@ use Rattle.dispatch_history.specs.Focus.{focus_sent}
 use Rattle.dispatch_history.specs.PointerOf.{RisesIn}
 use Rattle.dispatch_history.specs.Reply.{reply_to}
 use Rattle.dispatch_history.specs.Step.{marks, scene}
-use Rattle.dispatch_tables.specs.Lawful.{Lawful}
-use Rattle.dispatch_tables.specs.Channel.{Untouched, part_of, with_part}
-use Rattle.dispatch_tables.specs.Masks.{live_mask_after, able_mask_after}
-use Rattle.dispatch_tables.specs.Delivery.{DeliveryIs, noted_after}
-use Rattle.dispatch_tables.proofs.Lawfuls.{lawful_step}
-use Rattle.key_tables.specs.Focused.{FocusIs, change_of, change_sent}
-use Rattle.key_tables.specs.Held.{key_messages, target_sent}
-use Rattle.key_tables.proofs.Focusing.{focused_reads}
-use Rattle.dispatch_channels.specs.Table.{Table, opened, channel_of, input_of, but_for_room}
-use Rattle.dispatch_round.specs.declared.round.Round.{Round}
-use Rattle.dispatch_round.specs.Bodies.{keys_to}
-use Rattle.dispatch_round.specs.Rounds.{IsStepIn, IsRound, AllHoldPointers, sent_in}
-use Rattle.dispatch_round.specs.Outgoing.{SendsAll}
-use Rattle.window_covers.specs.Covers.{CoverTable}
+use Rattle.dispatcher.specs.DispatchTables.Lawful.{Lawful}
+use Rattle.dispatcher.specs.DispatchTables.Channel.{Untouched, part_of, with_part}
+use Rattle.dispatcher.specs.DispatchTables.Masks.{live_mask_after, able_mask_after}
+use Rattle.dispatcher.specs.DispatchTables.Delivery.{DeliveryIs, noted_after}
+use Rattle.dispatcher.proofs.DispatchTables.Lawfuls.{lawful_step}
+use Rattle.dispatcher.specs.KeyTables.Focused.{FocusIs, change_of, change_sent}
+use Rattle.dispatcher.specs.KeyTables.Held.{key_messages, target_sent}
+use Rattle.dispatcher.proofs.KeyTables.Focusing.{focused_reads}
+use Rattle.dispatcher.specs.DispatchChannels.Table.{Table, opened, channel_of, input_of, but_for_room}
+use Rattle.dispatcher.specs.declared.dispatch_round.round.Round.{Round}
+use Rattle.dispatcher.specs.DispatchRound.Bodies.{keys_to}
+use Rattle.dispatcher.specs.DispatchRound.Rounds.{IsStepIn, IsRound, AllHoldPointers, sent_in}
+use Rattle.dispatcher.specs.DispatchRound.Outgoing.{SendsAll}
+use Rattle.dispatcher.specs.WindowCovers.Covers.{CoverTable}
 use Rattle.dispatcher.specs.Covering.{CoversAre, CoversStep, IsGiftAt}
 use Rattle.dispatcher.specs.Pointing.{mark_at, step_at}
 use Rattle.dispatcher.specs.Input.{InputIs}

@@ -13,9 +13,9 @@ use Rattle.dispatch_history.specs.Said.{motion_from}
 use Rattle.dispatch_history.specs.Step.{marks}
 use Rattle.routing_rules.specs.Cover.{under_all}
 use Rattle.routing_rules.specs.Marks.{covered}
-use Rattle.dispatch_channels.specs.Heard.{body_from}
-use Rattle.key_tables.specs.Held.{key_messages}
-use Rattle.key_tables.proofs.Saying.{said_parts}
+use Rattle.dispatcher.specs.DispatchChannels.Heard.{body_from}
+use Rattle.dispatcher.specs.KeyTables.Held.{key_messages}
+use Rattle.dispatcher.proofs.KeyTables.Saying.{said_parts}
 use Rattle.dispatcher.specs.Pointing.{mark_at}
 use Rattle.dispatcher.specs.Tracking.{motions_at}
 use Rattle.dispatcher.specs.RoundLaws.{SaidLaw}

@@ -3,9 +3,9 @@ use Rattle.std.proofs.Common.{◌≡◌, ◌≤◌, ℕ, ◌||◌, Bool, true, f
 use Rattle.std.proofs.lemmas.Bool.{cases_Bool, or_parts}
 use Rattle.input_types.specs.declared.message.Body.{Body}
 use Rattle.window_snapshot.specs.Mask.{mask_has}
-use Rattle.cancel_synthesis.specs.Tracked.{Tracked}
-use Rattle.input_channel.specs.State.{ChannelState, published_at}
-use Rattle.input_channel.specs.State.{has_late as late_at}
+use Rattle.dispatcher.specs.CancelSynthesis.Tracked.{Tracked}
+use Rattle.dispatcher.specs.InputChannel.State.{ChannelState, published_at}
+use Rattle.dispatcher.specs.InputChannel.State.{has_late as late_at}
 use Rattle.dispatch_calls.specs.declared.call.Call.{Call}
 use Rattle.dispatch_calls.specs.declared.reply.Reply.{Reply}
 use Rattle.dispatch_history.specs.History.{clock, live, opened_after}
@@ -13,20 +13,20 @@ use Rattle.dispatch_history.specs.Effect.{Effect, past_of}
 use Rattle.dispatch_history.specs.Effects.{step, said_at}
 use Rattle.dispatch_history.specs.PointerOf.{RisesIn}
 use Rattle.dispatch_history.specs.Reply.{reply_to}
-use Rattle.dispatch_tables.specs.Lawful.{Lawful}
-use Rattle.dispatch_tables.specs.Channel.{Untouched, Holds, part_of, with_part, enqueued_all}
-use Rattle.dispatch_tables.specs.Masks.{live_mask_after, able_mask_after}
-use Rattle.dispatch_tables.specs.Delivery.{DeliveryIs, channel_after, noted_after}
-use Rattle.dispatch_tables.proofs.Lawfuls.{lawful_step}
-use Rattle.dispatch_tables.proofs.Ables.{live_number, live_mask_law}
-use Rattle.dispatch_tables.proofs.Going.{delivery_law}
-use Rattle.dispatch_tables.proofs.Unopened.{not_live_said}
-use Rattle.key_tables.specs.Focused.{FocusIs}
-use Rattle.key_tables.specs.Repeats.{RepeatIs}
-use Rattle.dispatch_channels.specs.Heard.{body_from}
-use Rattle.dispatch_channels.specs.Table.{Table, opened, channel_of, input_of}
-use Rattle.dispatch_round.specs.Bodies.{TracksAll}
-use Rattle.dispatch_round.specs.Outgoing.{SendsAll, heard, origin_at}
+use Rattle.dispatcher.specs.DispatchTables.Lawful.{Lawful}
+use Rattle.dispatcher.specs.DispatchTables.Channel.{Untouched, Holds, part_of, with_part, enqueued_all}
+use Rattle.dispatcher.specs.DispatchTables.Masks.{live_mask_after, able_mask_after}
+use Rattle.dispatcher.specs.DispatchTables.Delivery.{DeliveryIs, channel_after, noted_after}
+use Rattle.dispatcher.proofs.DispatchTables.Lawfuls.{lawful_step}
+use Rattle.dispatcher.proofs.DispatchTables.Ables.{live_number, live_mask_law}
+use Rattle.dispatcher.proofs.DispatchTables.Going.{delivery_law}
+use Rattle.dispatcher.proofs.DispatchTables.Unopened.{not_live_said}
+use Rattle.dispatcher.specs.KeyTables.Focused.{FocusIs}
+use Rattle.dispatcher.specs.KeyTables.Repeats.{RepeatIs}
+use Rattle.dispatcher.specs.DispatchChannels.Heard.{body_from}
+use Rattle.dispatcher.specs.DispatchChannels.Table.{Table, opened, channel_of, input_of}
+use Rattle.dispatcher.specs.DispatchRound.Bodies.{TracksAll}
+use Rattle.dispatcher.specs.DispatchRound.Outgoing.{SendsAll, heard, origin_at}
 use Rattle.dispatcher.specs.Covering.{CoversStep}
 use Rattle.dispatcher.specs.Queue.{QueueGoes}
 use Rattle.dispatcher.specs.Shown.{ShownGoes}

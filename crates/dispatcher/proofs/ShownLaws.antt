@@ -7,9 +7,9 @@ use Rattle.routing_rules.specs.Taking.{takes, pilfers}
 use Rattle.route_split.specs.Tables.{ChangesAll}
 use Rattle.route_split.specs.Marking.{gives, taking}
 use Rattle.route_split.proofs.FollowingLaws.{step_law, scene_law}
-use Rattle.window_covers.specs.declared.gift.Gift.{Gift}
-use Rattle.window_covers.specs.Laws.{Follows}
-use Rattle.window_covers.proofs.Giving.{gift_law, stay_law}
+use Rattle.dispatcher.specs.declared.window_covers.gift.Gift.{Gift}
+use Rattle.dispatcher.specs.WindowCovers.Laws.{Follows}
+use Rattle.dispatcher.proofs.WindowCovers.Giving.{gift_law, stay_law}
 use Rattle.dispatcher.specs.Covering.{CoversGo, IsGiftAt}
 use Rattle.dispatcher.specs.Pointing.{mark_at}
 use Rattle.dispatcher.specs.Laws.{ShownLaw, TouchesLaw, CoversLaw, TouchesSceneLaw}

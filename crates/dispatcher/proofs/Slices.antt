@@ -2,8 +2,8 @@
 use Rattle.std.proofs.Common.{◌≡◌, ◌≢◌, ◌≤◌, ◌-◌, ◌==◌, ℕ, zero, suc, cond, map, List, [], ◌∷◌, slice_index_or, slice_set, refl, sym, ap, ◌∙◌, subst, inl, inr, arith}
 use Rattle.std.proofs.lemmas.Bool.{cases_eq, eq-eqb, ne_eqb}
 use Rattle.std.proofs.lemmas.List.{get_or-set_same, get_or-set_other, length-set}
-use Rattle.input_channel.specs.State.{ChannelState, opened_with}
-use Rattle.dispatch_channels.specs.Table.{Table, opened, channel_of, with_channel}
+use Rattle.dispatcher.specs.InputChannel.State.{ChannelState, opened_with}
+use Rattle.dispatcher.specs.DispatchChannels.Table.{Table, opened, channel_of, with_channel}
 
 -- the channel with a number is another one, and the others stay
 pub channel_set : (t : Table) (c k : ℕ) (s : ChannelState) → 1 ≤ c → 1 ≤ k → k ≤ opened t

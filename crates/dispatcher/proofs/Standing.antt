@@ -6,9 +6,9 @@ use Rattle.dispatch_calls.specs.declared.reply.Reply.{Reply}
 use Rattle.dispatch_history.specs.Effect.{Effect, past_of, stream}
 use Rattle.dispatch_history.specs.Effects.{step}
 use Rattle.dispatch_history.specs.History.{live, received}
-use Rattle.dispatch_tables.specs.Channel.{MayGo}
-use Rattle.dispatch_tables.specs.Lawful.{Lawful}
-use Rattle.dispatch_tables.proofs.Releases.{may_go_on, none_may_go, received_may_go, all_may_go}
+use Rattle.dispatcher.specs.DispatchTables.Channel.{MayGo}
+use Rattle.dispatcher.specs.DispatchTables.Lawful.{Lawful}
+use Rattle.dispatcher.proofs.DispatchTables.Releases.{may_go_on, none_may_go, received_may_go, all_may_go}
 use Rattle.dispatcher.specs.Access.{gone}
 use Rattle.dispatcher.specs.Dispatching.{Dispatching, IsAfter, StandsFor}
 

@@ -5,10 +5,10 @@ use Rattle.std.proofs.lemmas.Bool.{true≢false}
 use Rattle.window_snapshot.specs.Mask.{mask_has}
 use Rattle.window_snapshot.proofs.Masks.{mask_has-zero}
 use Rattle.route_split.proofs.FollowingLaws.{start_law}
-use Rattle.dispatch_tables.specs.Delivery.{NotedIs}
-use Rattle.dispatch_tables.proofs.Lawfuls.{lawful_effects}
-use Rattle.key_tables.specs.Focused.{FocusIs}
-use Rattle.key_tables.proofs.Focusing.{focus_at_first}
+use Rattle.dispatcher.specs.DispatchTables.Delivery.{NotedIs}
+use Rattle.dispatcher.proofs.DispatchTables.Lawfuls.{lawful_effects}
+use Rattle.dispatcher.specs.KeyTables.Focused.{FocusIs}
+use Rattle.dispatcher.proofs.KeyTables.Focusing.{focus_at_first}
 use Rattle.dispatcher.specs.Laws.{KnowsFirst}
 
 pub knows_first : KnowsFirst

@@ -3,11 +3,11 @@ use Rattle.std.proofs.Common.{◌≡◌, ℕ, List, [], ◌∷◌, map, refl, ap
 use Rattle.std.proofs.lemmas.Bool.{cases_Bool}
 use Rattle.input_types.specs.declared.message.Body.{Body}
 use Rattle.window_snapshot.specs.Mask.{mask_has}
-use Rattle.input_channel.specs.State.{ChannelState, enqueued}
-use Rattle.dispatch_tables.specs.Channel.{enqueued_all}
-use Rattle.dispatch_channels.specs.Heard.{body_from}
-use Rattle.dispatch_channels.specs.Table.{channel_of}
-use Rattle.dispatch_round.specs.Outgoing.{origin_at}
+use Rattle.dispatcher.specs.InputChannel.State.{ChannelState, enqueued}
+use Rattle.dispatcher.specs.DispatchTables.Channel.{enqueued_all}
+use Rattle.dispatcher.specs.DispatchChannels.Heard.{body_from}
+use Rattle.dispatcher.specs.DispatchChannels.Table.{channel_of}
+use Rattle.dispatcher.specs.DispatchRound.Outgoing.{origin_at}
 use Rattle.dispatcher.specs.RoundLaws.{GoneLaw}
 
 enqueued_gone : (bs : List Body) (now : ℕ) (s : ChannelState) → (enqueued_all bs now s).gone ≡ s.gone

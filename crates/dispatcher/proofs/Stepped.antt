@@ -6,7 +6,7 @@ use Rattle.window_snapshot.proofs.Masks.{mask_has-zero}
 use Rattle.input_types.specs.declared.message.Args.{Args}
 use Rattle.focus_resolver.specs.Resolver.{FocusState}
 use Rattle.key_repeat.specs.Due.{due_of}
-use Rattle.key_tables.proofs.Focusing.{focus_read, focus_requested}
+use Rattle.dispatcher.proofs.KeyTables.Focusing.{focus_read, focus_requested}
 use Rattle.dispatch_calls.specs.declared.call.Call.{Call}
 use Rattle.dispatch_calls.specs.declared.call.Call.TheVariants.{Open, Windows, FocusOn, Notify, Pump, Tick, Receive, Finish, Pilfer, Remove}
 use Rattle.dispatch_calls.specs.declared.reply.Reply.{Reply}
@@ -17,9 +17,9 @@ use Rattle.dispatch_history.specs.Effects.{step}
 use Rattle.dispatch_history.specs.History.{moment_of, clock}
 use Rattle.dispatch_history.specs.Legal.{answered}
 use Rattle.dispatch_history.specs.Reply.{reply_to, is_due}
-use Rattle.dispatch_tables.proofs.Duties.{named_law}
-use Rattle.dispatch_tables.proofs.Going.{delivery_due}
-use Rattle.dispatch_channels.specs.Table.{due_moment}
+use Rattle.dispatcher.proofs.DispatchTables.Duties.{named_law}
+use Rattle.dispatcher.proofs.DispatchTables.Going.{delivery_due}
+use Rattle.dispatcher.specs.DispatchChannels.Table.{due_moment}
 use Rattle.dispatcher.specs.Queue.{Queue, QueueGoes}
 use Rattle.dispatcher.specs.Knows.{KeptStandsFor}
 use Rattle.dispatcher.specs.declared.tables.Routing.{Routing}

@@ -15,7 +15,7 @@ use Rattle.dispatch_calls.specs.declared.reply.Reply.TheVariants.{Dispatched}
 use Rattle.dispatch_history.specs.History.{snapshot}
 use Rattle.dispatch_history.specs.Effect.{Effect, past_of}
 use Rattle.dispatch_history.specs.Step.{scene, step_of}
-use Rattle.dispatch_tables.proofs.Keeping.{kept_facts}
+use Rattle.dispatcher.proofs.DispatchTables.Keeping.{kept_facts}
 use Rattle.dispatcher.specs.Pointing.{step_at}
 use Rattle.dispatcher.specs.Knows.{Kept, KeptStandsFor}
 use Rattle.dispatcher.specs.RoundLaws.{SeesLaw, MotionStepLaw, OtherStepsLaw, TimelyLaw, SameFocusLaw}

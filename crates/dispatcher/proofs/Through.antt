@@ -3,10 +3,10 @@ use Rattle.std.proofs.Common.{◌≡◌, ◌≤◌, ◌-◌, ◌+◌, ℕ, suc, 
 use Rattle.std.proofs.lemmas.Bool.{true≢false}
 use Rattle.input_types.specs.declared.message.Args.{Args}
 use Rattle.input_types.specs.DeviceRule.{device_of}
-use Rattle.inbound.specs.declared.change.Change.{Change}
-use Rattle.inbound.specs.declared.change.Inconsistent.{Inconsistent as Refusal}
-use Rattle.inbound.specs.Down.{PlansAt, state_at}
-use Rattle.inbound.proofs.Accepting.{says_down}
+use Rattle.dispatcher.specs.declared.inbound.change.Change.{Change}
+use Rattle.dispatcher.specs.declared.inbound.change.Inconsistent.{Inconsistent as Refusal}
+use Rattle.dispatcher.specs.InboundArgs.Down.{PlansAt, state_at}
+use Rattle.dispatcher.proofs.InboundArgs.Accepting.{says_down}
 use Rattle.dispatch_calls.specs.declared.call.Call.TheVariants.{Notify, Pump}
 use Rattle.dispatch_calls.specs.declared.reply.Reply.TheVariants.{Taken, Inconsistent, Dispatched}
 use Rattle.dispatch_history.specs.Effect.{Effect, past_of}

@@ -1,12 +1,12 @@
 -- No message was delivered after the clock.
 use Rattle.std.proofs.Common.{◌≡◌, ◌≤◌, ℕ, max, true, List, sym, ap, ◌∙◌, subst, arith}
 use Rattle.window_snapshot.specs.Mask.{mask_has}
-use Rattle.input_channel.specs.Order.{NoneAfter}
-use Rattle.dispatch_channels.specs.Table.{Table, channel_of, but_for_room}
-use Rattle.dispatch_channels.specs.Changes.{named_in}
+use Rattle.dispatcher.specs.InputChannel.Order.{NoneAfter}
+use Rattle.dispatcher.specs.DispatchChannels.Table.{Table, channel_of, but_for_room}
+use Rattle.dispatcher.specs.DispatchChannels.Changes.{named_in}
 use Rattle.dispatch_history.specs.Effect.{Effect}
-use Rattle.dispatch_tables.proofs.Ables.{live_number}
-use Rattle.dispatch_round.specs.Rounds.{IsTimely}
+use Rattle.dispatcher.proofs.DispatchTables.Ables.{live_number}
+use Rattle.dispatcher.specs.DispatchRound.Rounds.{IsTimely}
 use Rattle.dispatcher.specs.Knows.{KeptStandsFor}
 use Rattle.dispatcher.specs.Queue.{Queue}
 use Rattle.dispatcher.proofs.Replies.{live_by}

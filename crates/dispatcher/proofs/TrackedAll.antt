@@ -9,8 +9,8 @@ use Rattle.input_types.specs.declared.motion.Motion.{Motion}
 use Rattle.input_types.specs.declared.motion.MotionAction.{MotionAction}
 use Rattle.input_types.specs.declared.motion.MotionAction.TheVariants.{Down, Up, Move, Cancel, Outside, PointerDown, PointerUp}
 use Rattle.input_types.specs.declared.pointer.Pointer.{Pointer}
-use Rattle.cancel_synthesis.specs.Tracked.{pointers_of, pointers_then, pointers_after}
-use Rattle.cancel_synthesis.specs.Laws.{pointers_sent}
+use Rattle.dispatcher.specs.CancelSynthesis.Tracked.{pointers_of, pointers_then, pointers_after}
+use Rattle.dispatcher.specs.CancelSynthesis.Laws.{pointers_sent}
 use Rattle.routing_rules.specs.Cover.{Cover, flags_under, with_flags, under_all}
 use Rattle.routing_rules.specs.Given.{mark}
 use Rattle.routing_rules.specs.Marks.{covered}
@@ -20,10 +20,10 @@ use Rattle.dispatch_history.specs.Effects.{step}
 use Rattle.dispatch_history.specs.Focus.{has_focus, focus_sent}
 use Rattle.dispatch_history.specs.Step.{marks, scene}
 use Rattle.dispatch_history.proofs.SentMotions.{AllOf, sent_of, Differ, devices_differ}
-use Rattle.key_tables.specs.Held.{key_messages}
-use Rattle.key_tables.proofs.Tracking.{bodies_tracked_law}
+use Rattle.dispatcher.specs.KeyTables.Held.{key_messages}
+use Rattle.dispatcher.proofs.KeyTables.Tracking.{bodies_tracked_law}
 use Rattle.dispatcher.specs.Pointing.{mark_at, step_at}
-use Rattle.dispatch_round.specs.Bodies.{pointers_tracked}
+use Rattle.dispatcher.specs.DispatchRound.Bodies.{pointers_tracked}
 use Rattle.dispatcher.specs.Tracking.{motions_at}
 use Rattle.dispatcher.specs.Laws.{TracksAllLaw}
 

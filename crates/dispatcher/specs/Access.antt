@@ -2,11 +2,11 @@
 use Rattle.std.specs.Prelude.{◌≡◌, ◌≤◌, ℕ, Bool, true, false, ◌&&◌, nat_le, nat_lt, List, [], ◌∷◌, length, drop, reverse, Option, Some, None, if◌then◌else◌}
 use Rattle.input_types.specs.declared.message.Args.{Args}
 use Rattle.input_types.specs.declared.message.Message.{Message}
-use Rattle.cancel_synthesis.specs.Tracked.{Tracked, pointers_of}
+use Rattle.dispatcher.specs.CancelSynthesis.Tracked.{Tracked, pointers_of}
 use Rattle.routing_rules.specs.Marks.{held}
 use Rattle.routing_rules.specs.Pairs.{has}
 use Rattle.routing_rules.specs.Outgoing.{listing}
-use Rattle.key_tables.specs.Held.{KeysAre}
+use Rattle.dispatcher.specs.KeyTables.Held.{KeysAre}
 use Rattle.dispatch_calls.specs.declared.reply.Reply.{Reply}
 use Rattle.dispatch_calls.specs.declared.reply.Reply.TheVariants.{Got}
 use Rattle.dispatch_history.specs.Delivery.{delivery, oldest}
@@ -15,7 +15,7 @@ use Rattle.dispatch_history.specs.History.{opened}
 use Rattle.dispatch_history.specs.KeySent.{repeat_due}
 use Rattle.dispatch_history.specs.Queue.{inbound}
 use Rattle.dispatch_history.specs.Step.{marks}
-use Rattle.dispatch_channels.specs.Table.{channel_of}
+use Rattle.dispatcher.specs.DispatchChannels.Table.{channel_of}
 use Rattle.dispatcher.specs.Dispatching.{Dispatching}
 
 -- a channel was opened with this number

@@ -2,9 +2,9 @@
 use Rattle.std.specs.Prelude.{◌≡◌, ℕ, List, None}
 use Rattle.input_types.specs.declared.key.KeyMsg.{KeyMsg}
 use Rattle.route_split.specs.declared.mark.Mark.TheVariants.{Mute}
-use Rattle.dispatch_channels.specs.Table.{Table, but_for_room}
-use Rattle.dispatch_channels.specs.Changes.{named_in}
-use Rattle.dispatch_round.specs.declared.round.Round.{Round}
+use Rattle.dispatcher.specs.DispatchChannels.Table.{Table, but_for_room}
+use Rattle.dispatcher.specs.DispatchChannels.Changes.{named_in}
+use Rattle.dispatcher.specs.declared.dispatch_round.round.Round.{Round}
 use Rattle.dispatcher.specs.declared.tables.Routing.{Routing}
 use Rattle.dispatcher.specs.Carrying.{IsOf, CarriesOut}
 use Rattle.dispatcher.specs.Keying.{target_number}

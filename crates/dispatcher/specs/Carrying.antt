@@ -12,13 +12,13 @@ use Rattle.touch_state.specs.Touches.{Touches}
 use Rattle.route_split.specs.declared.mark.Mark.{Mark}
 use Rattle.route_split.specs.Tables.{ChangesAll}
 use Rattle.route_split.specs.Marking.{gives, taking}
-use Rattle.key_tables.specs.Repeats.{repeat_after}
-use Rattle.dispatch_channels.specs.Table.{Table, but_for_room}
-use Rattle.dispatch_round.specs.declared.round.Round.{Round}
-use Rattle.dispatch_round.specs.Rounds.{IsRound, AllHoldPointers, sent_in, may_take}
-use Rattle.dispatch_round.specs.Outgoing.{SendsAll}
+use Rattle.dispatcher.specs.KeyTables.Repeats.{repeat_after}
+use Rattle.dispatcher.specs.DispatchChannels.Table.{Table, but_for_room}
+use Rattle.dispatcher.specs.declared.dispatch_round.round.Round.{Round}
+use Rattle.dispatcher.specs.DispatchRound.Rounds.{IsRound, AllHoldPointers, sent_in, may_take}
+use Rattle.dispatcher.specs.DispatchRound.Outgoing.{SendsAll}
 use Rattle.dispatcher.specs.declared.tables.Routing.{Routing}
-use Rattle.window_covers.specs.Covers.{CoverTable}
+use Rattle.dispatcher.specs.WindowCovers.Covers.{CoverTable}
 use Rattle.dispatcher.specs.Covering.{CoversGo, GivesNone}
 use Rattle.dispatcher.specs.Keying.{target_number}
 use Rattle.dispatcher.specs.Tables.{LetsNoneGo}

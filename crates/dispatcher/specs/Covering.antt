@@ -10,9 +10,9 @@ use Rattle.routing_rules.specs.Marks.{Mark}
 use Rattle.routing_rules.specs.Pairs.{has_any}
 use Rattle.touch_state.specs.Touches.{Touches}
 use Rattle.route_split.specs.Tables.{any_at}
-use Rattle.window_covers.specs.declared.gift.Gift.{Gift}
-use Rattle.window_covers.specs.Covers.{CoverTable, Gives}
-use Rattle.window_covers.specs.Laws.{Follows, IsGift}
+use Rattle.dispatcher.specs.declared.window_covers.gift.Gift.{Gift}
+use Rattle.dispatcher.specs.WindowCovers.Covers.{CoverTable, Gives}
+use Rattle.dispatcher.specs.WindowCovers.Laws.{Follows, IsGift}
 use Rattle.dispatcher.specs.Pointing.{mark_at}
 
 -- what is kept says what lies over each window after the effects of a history

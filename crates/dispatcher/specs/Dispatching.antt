@@ -3,12 +3,12 @@ use Rattle.std.specs.Prelude.{ℕ, ◌≤◌, List, Option}
 use Rattle.touch_state.specs.Touches.{Touches}
 use Rattle.focus_resolver.specs.Resolver.{FocusState}
 use Rattle.key_repeat.specs.Due.{Sent}
-use Rattle.dispatch_channels.specs.Table.{Table, channel_of, but_for_room}
+use Rattle.dispatcher.specs.DispatchChannels.Table.{Table, channel_of, but_for_room}
 use Rattle.dispatch_history.specs.Effect.{Effect, past_of}
 use Rattle.dispatch_history.specs.PointerOf.{AllRise}
-use Rattle.dispatch_tables.specs.Channel.{MayGo}
-use Rattle.dispatch_tables.specs.Lawful.{Lawful}
-use Rattle.window_covers.specs.Covers.{CoverTable}
+use Rattle.dispatcher.specs.DispatchTables.Channel.{MayGo}
+use Rattle.dispatcher.specs.DispatchTables.Lawful.{Lawful}
+use Rattle.dispatcher.specs.WindowCovers.Covers.{CoverTable}
 use Rattle.dispatcher.specs.Queue.{Queue}
 use Rattle.dispatcher.specs.Queueing.{with_room as queue_with_room, with_args_room as queue_with_args_room}
 use Rattle.dispatcher.specs.Shown.{Shown}

@@ -1,11 +1,11 @@
 -- What is kept before the first call.
 use Rattle.std.specs.Prelude.{◌≡◌, ℕ, [], replicate, None}
-use Rattle.inbound.specs.Down.{DevicesStandFor}
+use Rattle.dispatcher.specs.InboundArgs.Down.{DevicesStandFor}
 use Rattle.window_snapshot.specs.Origins.{corner}
-use Rattle.dispatch_tables.specs.Delivery.{none_noted}
+use Rattle.dispatcher.specs.DispatchTables.Delivery.{none_noted}
 use Rattle.route_split.specs.Tables.{table_of, IsFresh}
 use Rattle.routing_rules.specs.Cover.{clear}
-use Rattle.window_covers.specs.Covers.{cover_in}
+use Rattle.dispatcher.specs.WindowCovers.Covers.{cover_in}
 use Rattle.dispatcher.specs.Shown.{origin_at}
 use Rattle.dispatcher.specs.Knows.{Kept}
 

@@ -1,11 +1,11 @@
 -- What is kept of what a window was sent and is not told the end of, and what a step makes of it.
 use Rattle.std.specs.Prelude.{◌≡◌, ℕ, List}
-use Rattle.cancel_synthesis.specs.Tracked.{Tracked}
-use Rattle.cancel_synthesis.specs.Laws.{keys_sent}
+use Rattle.dispatcher.specs.CancelSynthesis.Tracked.{Tracked}
+use Rattle.dispatcher.specs.CancelSynthesis.Laws.{keys_sent}
 use Rattle.dispatch_calls.specs.declared.call.Call.{Call}
 use Rattle.dispatch_calls.specs.declared.reply.Reply.{Reply}
 use Rattle.dispatch_history.specs.Effect.{Effect}
-use Rattle.key_tables.specs.Held.{KeysAre, key_messages}
+use Rattle.dispatcher.specs.KeyTables.Held.{KeysAre, key_messages}
 use Rattle.dispatcher.specs.Pointing.{PointersAre, PointersGo}
 
 -- what is kept are the pointers and the keys that the window holds, the pointers at their last places, the keys with their last messages

@@ -3,8 +3,8 @@ use Rattle.std.specs.Prelude.{ℕ, List, [], Option, Some, None, unwrap_or, if�
 use Rattle.input_types.specs.declared.key.KeyMsg.{KeyMsg}
 use Rattle.window_snapshot.specs.Mask.{mask_has}
 use Rattle.focus_resolver.specs.Resolver.{FocusState, target_of, is_at}
-use Rattle.cancel_synthesis.specs.Ends.{keys_cancelled}
-use Rattle.dispatch_channels.specs.Table.{Table, input_of}
+use Rattle.dispatcher.specs.CancelSynthesis.Ends.{keys_cancelled}
+use Rattle.dispatcher.specs.DispatchChannels.Table.{Table, input_of}
 
 -- a channel that is live
 abbrev pub only_live : (live : ℕ) → Option ℕ → Option ℕ

@@ -1,7 +1,7 @@
 -- What a dispatcher keeps in place of its history, table by table.
 use Rattle.std.specs.Prelude.{◌≡◌, ℕ, Bool, true, List, Option}
 use Rattle.touch_state.specs.Touches.{Touches}
-use Rattle.cancel_synthesis.specs.Tracked.{Tracked}
+use Rattle.dispatcher.specs.CancelSynthesis.Tracked.{Tracked}
 use Rattle.focus_resolver.specs.Resolver.{FocusState}
 use Rattle.key_repeat.specs.Due.{Sent}
 use Rattle.dispatch_calls.specs.declared.call.Call.{Call}
@@ -10,14 +10,14 @@ use Rattle.dispatch_history.specs.History.{live, clock}
 use Rattle.dispatch_history.specs.Effect.{Effect, past_of}
 use Rattle.dispatch_history.specs.Effects.{step, said_at}
 use Rattle.dispatch_history.specs.PointerOf.{AllRise}
-use Rattle.dispatch_tables.specs.Lawful.{Lawful}
-use Rattle.dispatch_tables.specs.Delivery.{Delivery, DeliveryIs, GoesOn}
-use Rattle.key_tables.specs.Focused.{FocusIs}
-use Rattle.key_tables.specs.Repeats.{RepeatIs}
+use Rattle.dispatcher.specs.DispatchTables.Lawful.{Lawful}
+use Rattle.dispatcher.specs.DispatchTables.Delivery.{Delivery, DeliveryIs, GoesOn}
+use Rattle.dispatcher.specs.KeyTables.Focused.{FocusIs}
+use Rattle.dispatcher.specs.KeyTables.Repeats.{RepeatIs}
 use Rattle.dispatcher.specs.Queue.{Queue, QueueIs, QueueGoes}
 use Rattle.dispatcher.specs.Shown.{Shown, ShownIs, ShownGoes}
 use Rattle.dispatcher.specs.Pointing.{TouchesAre, TouchesGo}
-use Rattle.window_covers.specs.Covers.{CoverTable}
+use Rattle.dispatcher.specs.WindowCovers.Covers.{CoverTable}
 use Rattle.dispatcher.specs.Covering.{CoversAre, CoversStep}
 use Rattle.dispatcher.specs.Input.{InputIs, InputGoes}
 

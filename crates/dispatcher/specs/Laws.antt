@@ -2,10 +2,10 @@
 use Rattle.std.specs.Prelude.{◌≡◌, ◌≤◌, ◌<◌, ◌^◌, ℕ, max, true, false, List, [], length, Option, Ok, Err}
 use Rattle.input_types.specs.declared.message.Args.{Args}
 use Rattle.input_types.specs.DeviceRule.{device_of}
-use Rattle.inbound.specs.declared.change.Change.{Change}
-use Rattle.inbound.specs.declared.change.Inconsistent.{Inconsistent as Refusal}
-use Rattle.inbound.specs.Down.{PlansAt}
-use Rattle.cancel_synthesis.specs.Tracked.{Tracked, pointers_of}
+use Rattle.dispatcher.specs.declared.inbound.change.Change.{Change}
+use Rattle.dispatcher.specs.declared.inbound.change.Inconsistent.{Inconsistent as Refusal}
+use Rattle.dispatcher.specs.InboundArgs.Down.{PlansAt}
+use Rattle.dispatcher.specs.CancelSynthesis.Tracked.{Tracked, pointers_of}
 use Rattle.dispatch_history.specs.History.{live}
 use Rattle.dispatch_history.specs.PointerOf.{AllRise, RisesIn}
 use Rattle.touch_state.specs.Touches.{Touches}
@@ -17,26 +17,26 @@ use Rattle.dispatch_history.specs.Effect.{Effect, past_of}
 use Rattle.dispatch_history.specs.Effects.{step, said_at}
 use Rattle.dispatch_history.specs.Reply.{reply_to, is_due}
 use Rattle.window_snapshot.specs.Mask.{mask_has}
-use Rattle.dispatch_tables.specs.Silent.{is_no_op}
-use Rattle.dispatch_tables.specs.Delivery.{due_kept}
+use Rattle.dispatcher.specs.DispatchTables.Silent.{is_no_op}
+use Rattle.dispatcher.specs.DispatchTables.Delivery.{due_kept}
 use Rattle.dispatch_history.specs.Step.{scene}
-use Rattle.dispatch_tables.specs.Lawful.{Lawful}
+use Rattle.dispatcher.specs.DispatchTables.Lawful.{Lawful}
 use Rattle.route_split.specs.Tables.{Stands}
 use Rattle.route_split.specs.Sending.{IsListed}
 use Rattle.dispatcher.specs.Queue.{Queue, QueueIs, QueueGoes}
 use Rattle.dispatcher.specs.Shown.{Shown, ShownIs, ShownGoes}
 use Rattle.focus_resolver.specs.Resolver.{FocusState}
 use Rattle.key_repeat.specs.Due.{Sent}
-use Rattle.key_tables.specs.Focused.{leaves_focus}
+use Rattle.dispatcher.specs.KeyTables.Focused.{leaves_focus}
 use Rattle.dispatcher.specs.Input.{InputIs, InputGoes}
 use Rattle.dispatcher.specs.Knows.{Kept, KeyingIs, KeptStandsFor, Goes}
-use Rattle.window_covers.specs.Covers.{CoverTable}
+use Rattle.dispatcher.specs.WindowCovers.Covers.{CoverTable}
 use Rattle.dispatcher.specs.Covering.{CoversAre, CoversStep}
 use Rattle.dispatcher.specs.Pointing.{TouchesAre, TouchesGo, PointersAre, PointersGo}
 use Rattle.dispatcher.specs.First.{IsFirst}
 use Rattle.dispatcher.specs.Replying.{reply_by, IsOfDevice, MayHand}
 use Rattle.dispatcher.specs.Staying.{Stays}
-use Rattle.dispatch_round.specs.Bodies.{TracksAll}
+use Rattle.dispatcher.specs.DispatchRound.Bodies.{TracksAll}
 use Rattle.dispatcher.specs.Tracking.{bodies_at}
 
 -- The clock, the queue and what is down go on with any step.

@@ -28,3 +28,12 @@ pub mod Carrying
 pub mod Anr
 pub mod Opening
 pub mod Roomy
+pub mod InboundArgs
+pub mod CancelSynthesis
+pub mod InputChannel
+pub mod AnrTracker
+pub mod DispatchTables
+pub mod KeyTables
+pub mod WindowCovers
+pub mod DispatchChannels
+pub mod DispatchRound

@@ -3,10 +3,10 @@ use Rattle.std.specs.Prelude.{◌≡◌, ◌≤◌, ℕ, [], None, bit_and}
 use Rattle.window_snapshot.specs.Mask.{mask_with}
 use Rattle.focus_resolver.specs.Resolver.{FocusState, focus_of, is_focused}
 use Rattle.focus_resolver.specs.Changes.{IsOnlyIn}
-use Rattle.cancel_synthesis.specs.Tracked.{pointers_of}
+use Rattle.dispatcher.specs.CancelSynthesis.Tracked.{pointers_of}
 use Rattle.route_split.specs.declared.mark.Mark.TheVariants.{NoOp}
-use Rattle.dispatch_channels.specs.Table.{Table, channel_of, input_of}
-use Rattle.dispatch_round.specs.declared.round.Round.{Round}
+use Rattle.dispatcher.specs.DispatchChannels.Table.{Table, channel_of, input_of}
+use Rattle.dispatcher.specs.declared.dispatch_round.round.Round.{Round}
 use Rattle.dispatcher.specs.Sending.{Refocuses}
 use Rattle.dispatcher.specs.declared.tables.Routing.{Routing}
 use Rattle.dispatcher.specs.Carrying.{IsOf, CarriesOut}

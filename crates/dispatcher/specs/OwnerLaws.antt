@@ -1,14 +1,14 @@
 -- What is proved of what the owners of channels do.
 use Rattle.std.specs.Prelude.{◌≡◌, ℕ, List}
 use Rattle.input_types.specs.declared.message.Message.{Message}
-use Rattle.input_channel.specs.State.{received_one}
+use Rattle.dispatcher.specs.InputChannel.State.{received_one}
 use Rattle.dispatch_calls.specs.declared.call.Call.TheVariants.{Receive, Finish}
 use Rattle.dispatch_calls.specs.declared.reply.Reply.TheVariants.{Done, Got}
 use Rattle.dispatch_history.specs.Effect.{Effect}
 use Rattle.dispatch_history.specs.Effects.{step}
 use Rattle.dispatch_history.specs.Reply.{reply_to}
-use Rattle.dispatch_channels.specs.Table.{Table, channel_of, with_channel}
-use Rattle.dispatch_channels.specs.Changes.{finished_in}
+use Rattle.dispatcher.specs.DispatchChannels.Table.{Table, channel_of, with_channel}
+use Rattle.dispatcher.specs.DispatchChannels.Changes.{finished_in}
 use Rattle.dispatcher.specs.Knows.{Kept, KeptStandsFor}
 use Rattle.dispatcher.specs.Staying.{StaysBut, delivery_of}
 

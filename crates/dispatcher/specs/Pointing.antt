@@ -8,8 +8,8 @@ use Rattle.routing_rules.specs.Given.{mark}
 use Rattle.routing_rules.specs.Taking.{takes, pilfers}
 use Rattle.routing_rules.specs.Scene.{Step}
 use Rattle.routing_rules.specs.Outgoing.{listing, outgoing}
-use Rattle.cancel_synthesis.specs.Laws.{pointers_sent}
-use Rattle.cancel_synthesis.specs.Tracked.{Tracked, pointers_of}
+use Rattle.dispatcher.specs.CancelSynthesis.Laws.{pointers_sent}
+use Rattle.dispatcher.specs.CancelSynthesis.Tracked.{Tracked, pointers_of}
 use Rattle.dispatch_history.specs.History.{snapshot}
 use Rattle.dispatch_history.specs.Queue.{inbound, args_of}
 use Rattle.dispatch_history.specs.Effect.{Effect, past_of, last}

@@ -1,9 +1,9 @@
 -- What is kept of the clock, of args that wait and of what is down, and what a step makes of it.
 use Rattle.std.specs.Prelude.{◌≡◌, ℕ, ◌-◌, suc, max, List, [], ◌∷◌, ◌++◌, drop, length, Ok}
 use Rattle.input_types.specs.declared.message.Args.{Args}
-use Rattle.inbound.specs.declared.change.Change.{Change}
-use Rattle.inbound.specs.Kept.{Kept}
-use Rattle.inbound.specs.Down.{DevicesStandFor, PlansAt, Changes}
+use Rattle.dispatcher.specs.declared.inbound.change.Change.{Change}
+use Rattle.dispatcher.specs.InboundArgs.Kept.{Kept}
+use Rattle.dispatcher.specs.InboundArgs.Down.{DevicesStandFor, PlansAt, Changes}
 use Rattle.dispatch_calls.specs.declared.call.Call.{Call}
 use Rattle.dispatch_calls.specs.declared.call.Call.TheVariants.{Notify, Pump}
 use Rattle.dispatch_calls.specs.declared.reply.Reply.{Reply}

@@ -2,28 +2,28 @@
 use Rattle.std.specs.Prelude.{◌≡◌, ◌≤◌, ℕ, true, List, drop, length, reverse, option_map, Option}
 use Rattle.input_types.specs.Displays.{device_display}
 use Rattle.window_snapshot.specs.Mask.{mask_has}
-use Rattle.anr_tracker.specs.Due.{IsFirst}
-use Rattle.input_channel.specs.State.{ChannelState, oldest_of}
+use Rattle.dispatcher.specs.AnrTracker.Due.{IsFirst}
+use Rattle.dispatcher.specs.InputChannel.State.{ChannelState, oldest_of}
 use Rattle.key_repeat.specs.Due.{due_of}
-use Rattle.cancel_synthesis.specs.Tracked.{pointers_of}
+use Rattle.dispatcher.specs.CancelSynthesis.Tracked.{pointers_of}
 use Rattle.routing_rules.specs.Marks.{held, since, pilfering}
 use Rattle.routing_rules.specs.Pairs.{has, has_any}
 use Rattle.routing_rules.specs.Outgoing.{listing}
 use Rattle.window_snapshot.specs.Named.{is_shown_on}
 use Rattle.touch_state.specs.Touches.{Touches, since as since_in}
 use Rattle.route_split.specs.Tables.{table_of, holds_at, any_at, pilfering_at}
-use Rattle.key_tables.specs.Held.{KeysAre}
+use Rattle.dispatcher.specs.KeyTables.Held.{KeysAre}
 use Rattle.dispatch_history.specs.History.{clock, live, opened as opened_by, snapshot}
 use Rattle.dispatch_history.specs.Effect.{Effect, past_of, stream, last}
 use Rattle.dispatch_history.specs.Delivery.{able, delivery, oldest}
 use Rattle.dispatch_history.specs.Due.{counts, first_due, anrs}
 use Rattle.dispatch_history.specs.KeySent.{repeat_due}
 use Rattle.dispatch_history.specs.Step.{marks}
-use Rattle.dispatch_tables.specs.Channel.{Holds}
-use Rattle.dispatch_tables.specs.Delivery.{noted_gone}
-use Rattle.dispatch_tables.specs.Dues.{due_moment, due_pair}
-use Rattle.dispatch_channels.specs.Table.{Table, opened, channel_of, input_of, with_channel, but_for_room, due_moment as due_in_table}
-use Rattle.dispatch_channels.specs.Changes.{counts_in}
+use Rattle.dispatcher.specs.DispatchTables.Channel.{Holds}
+use Rattle.dispatcher.specs.DispatchTables.Delivery.{noted_gone}
+use Rattle.dispatcher.specs.DispatchTables.Dues.{due_moment, due_pair}
+use Rattle.dispatcher.specs.DispatchChannels.Table.{Table, opened, channel_of, input_of, with_channel, but_for_room, due_moment as due_in_table}
+use Rattle.dispatcher.specs.DispatchChannels.Changes.{counts_in}
 use Rattle.dispatcher.specs.Knows.{Kept, KeptStandsFor}
 use Rattle.dispatcher.specs.Staying.{delivery_of}
 

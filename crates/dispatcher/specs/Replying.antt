@@ -4,8 +4,8 @@ use Rattle.std.specs.List.{list_any}
 use Rattle.input_types.specs.DeviceRule.{device_of}
 use Rattle.window_snapshot.specs.Mask.{mask_has}
 use Rattle.window_snapshot.specs.Window.{is_spy}
-use Rattle.inbound.specs.Down.{state_at}
-use Rattle.input_channel.specs.State.{next_of, may_finish}
+use Rattle.dispatcher.specs.InboundArgs.Down.{state_at}
+use Rattle.dispatcher.specs.InputChannel.State.{next_of, may_finish}
 use Rattle.key_repeat.specs.Due.{due_of}
 use Rattle.route_split.specs.Tables.{any_at}
 use Rattle.dispatch_calls.specs.declared.call.Call.{Call}
@@ -17,7 +17,7 @@ use Rattle.dispatch_history.specs.History.{live, received}
 use Rattle.dispatch_history.specs.Effect.{Effect, past_of}
 use Rattle.dispatch_history.specs.Effects.{channels}
 use Rattle.dispatch_history.specs.Reply.{open_reply, notify_reply, pump_reply, got_reply, is_due}
-use Rattle.dispatch_tables.specs.Delivery.{Delivery, due_kept}
+use Rattle.dispatcher.specs.DispatchTables.Delivery.{Delivery, due_kept}
 use Rattle.dispatcher.specs.Knows.{Kept}
 
 -- the channels that are due at a moment, in rising order

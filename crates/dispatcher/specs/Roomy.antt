@@ -3,14 +3,14 @@ use Rattle.std.specs.Prelude.{◌≡◌, ◌≤◌, ◌<◌, ◌+◌, ◌*◌, �
 use Rattle.input_types.specs.declared.key.KeyMsg.{KeyMsg}
 use Rattle.input_types.specs.declared.message.Body.TheVariants.{Key}
 use Rattle.window_snapshot.specs.Mask.{mask_has}
-use Rattle.input_channel.specs.State.{ChannelState}
-use Rattle.cancel_synthesis.specs.Tracked.{Tracked}
-use Rattle.key_tables.specs.Held.{bodies_tracked}
-use Rattle.dispatch_channels.specs.Table.{Table, channel_of, input_of}
-use Rattle.dispatch_round.specs.declared.round.Round.{Round}
-use Rattle.dispatch_round.specs.Bodies.{keys_to}
-use Rattle.dispatch_round.specs.Rounds.{IsLeft}
-use Rattle.dispatch_round.specs.Saying.{Spends}
+use Rattle.dispatcher.specs.InputChannel.State.{ChannelState}
+use Rattle.dispatcher.specs.CancelSynthesis.Tracked.{Tracked}
+use Rattle.dispatcher.specs.KeyTables.Held.{bodies_tracked}
+use Rattle.dispatcher.specs.DispatchChannels.Table.{Table, channel_of, input_of}
+use Rattle.dispatcher.specs.declared.dispatch_round.round.Round.{Round}
+use Rattle.dispatcher.specs.DispatchRound.Bodies.{keys_to}
+use Rattle.dispatcher.specs.DispatchRound.Rounds.{IsLeft}
+use Rattle.dispatcher.specs.DispatchRound.Saying.{Spends}
 use Rattle.dispatcher.specs.declared.tables.Routing.{Routing}
 use Rattle.dispatcher.specs.declared.tables.Tables.{Tables}
 

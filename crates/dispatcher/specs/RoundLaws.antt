@@ -19,7 +19,7 @@ use Rattle.route_split.specs.Marking.{IsMark}
 use Rattle.route_split.specs.Seen.{Sees}
 use Rattle.route_split.specs.Tables.{Stands}
 use Rattle.routing_rules.specs.Watching.{is_watching}
-use Rattle.input_channel.specs.Order.{NoneAfter}
+use Rattle.dispatcher.specs.InputChannel.Order.{NoneAfter}
 use Rattle.input_types.specs.Displays.{device_display}
 use Rattle.dispatch_calls.specs.declared.call.Call.{Call}
 use Rattle.dispatch_calls.specs.declared.call.Call.TheVariants.{Open, Windows, FocusOn, Pump, Tick, Pilfer, Remove}
@@ -31,12 +31,12 @@ use Rattle.dispatch_history.specs.Effects.{step, said_at}
 use Rattle.dispatch_history.specs.PointerOf.{RisesIn}
 use Rattle.dispatch_history.specs.Reply.{reply_to}
 use Rattle.dispatch_history.specs.Step.{scene}
-use Rattle.dispatch_channels.specs.Heard.{body_from}
-use Rattle.dispatch_channels.specs.Table.{Table, channel_of, input_of, but_for_room}
-use Rattle.dispatch_channels.specs.Changes.{Opens}
-use Rattle.dispatch_round.specs.declared.round.Round.{Round}
-use Rattle.dispatch_round.specs.Rounds.{IsStepIn, IsRound, AllHoldPointers, sent_in}
-use Rattle.dispatch_round.specs.Outgoing.{SendsAll}
+use Rattle.dispatcher.specs.DispatchChannels.Heard.{body_from}
+use Rattle.dispatcher.specs.DispatchChannels.Table.{Table, channel_of, input_of, but_for_room}
+use Rattle.dispatcher.specs.DispatchChannels.Changes.{Opens}
+use Rattle.dispatcher.specs.declared.dispatch_round.round.Round.{Round}
+use Rattle.dispatcher.specs.DispatchRound.Rounds.{IsStepIn, IsRound, AllHoldPointers, sent_in}
+use Rattle.dispatcher.specs.DispatchRound.Outgoing.{SendsAll}
 use Rattle.dispatcher.specs.Covering.{IsGiftAt}
 use Rattle.dispatcher.specs.Pointing.{step_at}
 use Rattle.dispatcher.specs.Knows.{Kept, KeptStandsFor}

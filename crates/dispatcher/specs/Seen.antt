@@ -3,8 +3,8 @@ use Rattle.std.specs.Prelude.{List, Option}
 use Rattle.touch_state.specs.Touches.{Touches}
 use Rattle.focus_resolver.specs.Resolver.{FocusState}
 use Rattle.key_repeat.specs.Due.{Sent}
-use Rattle.dispatch_channels.specs.Table.{Table, input_of}
-use Rattle.window_covers.specs.Covers.{CoverTable}
+use Rattle.dispatcher.specs.DispatchChannels.Table.{Table, input_of}
+use Rattle.dispatcher.specs.WindowCovers.Covers.{CoverTable}
 use Rattle.dispatcher.specs.Queue.{Queue}
 use Rattle.dispatcher.specs.Shown.{Shown}
 use Rattle.dispatcher.specs.Knows.{Kept}

@@ -6,8 +6,8 @@ use Rattle.window_snapshot.specs.Mask.{mask_has, mask_with}
 use Rattle.window_snapshot.specs.Named.{is_focusable_on}
 use Rattle.focus_resolver.specs.Resolver.{FocusState, may_by, is_at, is_focused, focus_of, target_of}
 use Rattle.key_repeat.specs.Due.{Sent}
-use Rattle.input_channel.specs.State.{opened_with}
-use Rattle.cancel_synthesis.specs.Tracked.{pointers_of}
+use Rattle.dispatcher.specs.InputChannel.State.{opened_with}
+use Rattle.dispatcher.specs.CancelSynthesis.Tracked.{pointers_of}
 use Rattle.routing_rules.specs.Taking.{takes, pilfers}
 use Rattle.route_split.specs.declared.mark.Mark.TheVariants.{Forget}
 use Rattle.route_split.specs.Tables.{ChangesAll}
@@ -17,11 +17,11 @@ use Rattle.dispatch_calls.specs.declared.call.Call.TheVariants.{Open, Windows, F
 use Rattle.dispatch_calls.specs.declared.reply.Reply.{Reply}
 use Rattle.dispatch_calls.specs.declared.reply.Reply.TheVariants.{Done, Dispatched, Repeated, Named}
 use Rattle.dispatch_history.specs.Queue.{args_of}
-use Rattle.key_tables.specs.Held.{target_sent}
-use Rattle.key_tables.specs.Repeats.{repeat_next}
-use Rattle.dispatch_channels.specs.Table.{Table, opened, channel_of, input_of}
-use Rattle.dispatch_channels.specs.Changes.{named_in, removed_in}
-use Rattle.dispatch_round.specs.declared.round.Round.{Round}
+use Rattle.dispatcher.specs.KeyTables.Held.{target_sent}
+use Rattle.dispatcher.specs.KeyTables.Repeats.{repeat_next}
+use Rattle.dispatcher.specs.DispatchChannels.Table.{Table, opened, channel_of, input_of}
+use Rattle.dispatcher.specs.DispatchChannels.Changes.{named_in, removed_in}
+use Rattle.dispatcher.specs.declared.dispatch_round.round.Round.{Round}
 use Rattle.dispatcher.specs.Covering.{CoversGo}
 use Rattle.dispatcher.specs.Queue.{QueueGoes}
 use Rattle.dispatcher.specs.Shown.{ShownGoes}

@@ -3,7 +3,7 @@ use Rattle.std.specs.Prelude.{◌≡◌, ◌≤◌, ℕ, List}
 use Rattle.input_types.specs.declared.axis.Pixel.{Pixel}
 use Rattle.window_snapshot.specs.declared.window.Window.{Window}
 use Rattle.dispatch_calls.specs.declared.call.Call.{Call}
-pub use Rattle.dispatch_round.specs.Outgoing.{origin_at}
+pub use Rattle.dispatcher.specs.DispatchRound.Outgoing.{origin_at}
 use Rattle.dispatch_history.specs.History.{snapshot, windows_after, origin, origin_after}
 use Rattle.dispatch_history.specs.Effect.{Effect, past_of}
 

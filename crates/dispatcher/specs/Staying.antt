@@ -2,8 +2,8 @@
 use Rattle.std.specs.Prelude.{◌≡◌}
 use Rattle.dispatch_calls.specs.declared.call.Call.{Call}
 use Rattle.dispatch_calls.specs.declared.reply.Reply.{Reply}
-use Rattle.dispatch_channels.specs.Table.{Table, opened, channel_of}
-use Rattle.dispatch_tables.specs.Delivery.{Delivery}
+use Rattle.dispatcher.specs.DispatchChannels.Table.{Table, opened, channel_of}
+use Rattle.dispatcher.specs.DispatchTables.Delivery.{Delivery}
 use Rattle.dispatcher.specs.Queue.{QueueGoes}
 use Rattle.dispatcher.specs.Knows.{Kept}
 

@@ -5,7 +5,7 @@ use Rattle.dispatch_calls.specs.declared.call.Call.TheVariants.{Notify, Pump, Re
 use Rattle.dispatch_calls.specs.declared.reply.Reply.{Reply}
 use Rattle.dispatch_calls.specs.declared.reply.Reply.TheVariants.{Taken, Dispatched}
 use Rattle.input_types.specs.declared.message.Args.{Args}
-use Rattle.dispatch_channels.specs.Table.{Table, channel_of, but_for_room, NoLessRoom}
+use Rattle.dispatcher.specs.DispatchChannels.Table.{Table, channel_of, but_for_room, NoLessRoom}
 use Rattle.dispatch_history.specs.Effect.{Effect}
 use Rattle.dispatch_history.specs.Effects.{step}
 use Rattle.dispatch_history.specs.History.{moment_of}

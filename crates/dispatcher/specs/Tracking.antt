@@ -11,8 +11,8 @@ use Rattle.dispatch_history.specs.Focus.{has_focus, focus_sent}
 use Rattle.dispatch_history.specs.Step.{marks, scene}
 use Rattle.routing_rules.specs.Cover.{under_all}
 use Rattle.routing_rules.specs.Marks.{covered}
-use Rattle.key_tables.specs.Held.{key_messages}
-use Rattle.dispatch_round.specs.Bodies.{motions_of}
+use Rattle.dispatcher.specs.KeyTables.Held.{key_messages}
+use Rattle.dispatcher.specs.DispatchRound.Bodies.{motions_of}
 use Rattle.dispatcher.specs.Pointing.{mark_at, step_at}
 
 -- the motions that a step tells a window, device by device, in display pixels and without what lies over the window

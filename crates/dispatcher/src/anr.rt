@@ -1,18 +1,18 @@
 //! Windows that do not answer.
 ghost use Rattle.std.specs.Prelude.{◌≡◌, ◌≤◌, ℕ, false, IfOk, OnOk, OnErr, IsOk, vec_capacity};
 ghost use Rattle.dispatch_calls.specs.declared.call.Call.TheVariants.{Tick};
-ghost use Rattle.dispatch_channels.specs.Table.{due_moment};
+ghost use Rattle.dispatcher.specs.DispatchChannels.Table.{due_moment};
 ghost use Rattle.dispatch_history.specs.Reply.{is_due};
-ghost use Rattle.dispatch_round.specs.Rounds.{IsTimely};
+ghost use Rattle.dispatcher.specs.DispatchRound.Rounds.{IsTimely};
 ghost use Rattle.dispatcher.specs.Anr.{Names};
 ghost use Rattle.dispatcher.specs.Keying.{named_keys};
 ghost use Rattle.dispatcher.specs.Tables.{Goes, SameButRoom};
 
 use crate::carry::carry_out;
+use crate::dispatch_round::{Round, make_room};
 use crate::key_steps::listening;
 use crate::tables::Routing;
 use dispatch_calls::Reply;
-use dispatch_round::{Round, make_room};
 use input_types::{KeyMsg, Moment};
 use route_split::Mark;
 use std::alloc::AllocError;

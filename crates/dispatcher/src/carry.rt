@@ -2,22 +2,22 @@
 ghost use Rattle.std.specs.Prelude.{◌≡◌, ℕ, suc, false, [], ◌∷◌, OnOk, OnErr, IsOk};
 ghost use Rattle.route_split.specs.declared.mark.Mark.TheVariants.{NoOp};
 ghost use Rattle.route_split.specs.Marking.{IsWhole};
-ghost use Rattle.dispatch_round.specs.Rounds.{AreListeners, IsReady, IsTimely, is_concerned};
-ghost use Rattle.dispatch_round.specs.Light.{IsLight};
+ghost use Rattle.dispatcher.specs.DispatchRound.Rounds.{AreListeners, IsReady, IsTimely, is_concerned};
+ghost use Rattle.dispatcher.specs.DispatchRound.Light.{IsLight};
 ghost use Rattle.dispatcher.specs.Carrying.{IsSilent, CarriesOut, CarriesFrom, CarriesSome};
 ghost use Rattle.dispatcher.specs.Covering.{CoversGo};
 ghost use Rattle.dispatcher.specs.Keying.{target_number};
 ghost use Rattle.dispatcher.specs.Roomy.{IsRoomy, AreModest, TakesRoom};
 ghost use Rattle.dispatcher.specs.Tables.{SameButRoom};
 
+use crate::dispatch_round::{Round, make_light_room, make_room, send_all, send_light};
+use crate::key_tables::remember;
 use crate::tables::Routing;
-use dispatch_round::{Round, make_light_room, make_room, send_all, send_light};
+use crate::window_covers::Covers;
 use focus_resolver::Change;
 use input_types::{KeyMsg, Moment};
-use key_tables::remember;
 use route_split::{Mark, Touches};
 use std::alloc::AllocError;
-use window_covers::Covers;
 
 /// The windows that a round gives a pointer have what lies over them there, before the tables of touches change by it.
 #[inline(always)]

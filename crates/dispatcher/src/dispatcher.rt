@@ -9,8 +9,8 @@ ghost use Rattle.dispatch_history.specs.Effect.{Effect, past_of};
 ghost use Rattle.dispatch_history.specs.Effects.{step};
 ghost use Rattle.dispatch_history.specs.History.{live, opened};
 ghost use Rattle.dispatch_history.specs.Reply.{reply_to};
-ghost use Rattle.dispatch_tables.specs.Channel.{MayGo};
-ghost use Rattle.dispatch_tables.specs.Dues.{due_moment, due_pair};
+ghost use Rattle.dispatcher.specs.DispatchTables.Channel.{MayGo};
+ghost use Rattle.dispatcher.specs.DispatchTables.Dues.{due_moment, due_pair};
 ghost use Rattle.dispatcher.specs.ReadLaws.{ReadsTouches};
 ghost use Rattle.window_snapshot.specs.Mask.{is_channel};
 ghost use Rattle.dispatcher.specs.Access.{is_opened, gone, anrs_released, messages_of, has_messages, got, oldest_delivery};
@@ -29,14 +29,14 @@ mod releasing;
 mod requests;
 mod room;
 
+use crate::cancel_synthesis::InputState;
 use crate::tables::Tables;
-use cancel_synthesis::InputState;
+use crate::window_covers::Covers;
 use dispatch_calls::{Anr, Call, Counts, Reply};
 use input_types::{Displays, Message, Moment};
 use route_split::Touches;
 use std::alloc::{AllocError, Global};
 use std::marker::Model;
-use window_covers::Covers;
 use window_snapshot::mask_has;
 
 /// Routes args to windows, and answers each call as the calls before it say. It keeps what the next answers need, and

@@ -2,7 +2,7 @@
 ghost use Rattle.std.specs.Prelude.{◌≡◌, ◌<◌, ◌≤◌, [], IfOk, OnOk, OnErr, IsOk, vec_capacity};
 ghost use Rattle.dispatch_calls.specs.declared.call.Call.TheVariants.{Open, Windows, FocusOn};
 ghost use Rattle.route_split.specs.Marking.{IsWhole};
-ghost use Rattle.dispatch_round.specs.Rounds.{IsTimely};
+ghost use Rattle.dispatcher.specs.DispatchRound.Rounds.{IsTimely};
 ghost use Rattle.focus_resolver.specs.Resolver.{target_of};
 ghost use Rattle.dispatcher.specs.Carrying.{CarriesSome, IsSilent};
 ghost use Rattle.dispatcher.specs.Needing.{LeavesFocus};
@@ -11,14 +11,14 @@ ghost use Rattle.dispatcher.specs.Keying.{lost_keys};
 ghost use Rattle.dispatcher.specs.Tables.{Goes, SameButRoom};
 
 use crate::carry::{carry_out, send_still};
+use crate::dispatch_round::{Round, listeners};
 use crate::key_steps::listening;
+use crate::key_tables::focusable;
 use crate::stays::staying;
 use crate::tables::Routing;
 use dispatch_calls::Reply;
-use dispatch_round::{Round, listeners};
 use focus_resolver::Change;
 use input_types::{DisplayId, KeyMsg, Limit, Moment};
-use key_tables::focusable;
 use route_split::Mark;
 use std::alloc::AllocError;
 use window_snapshot::{Snapshot, mask_with};

@@ -4,16 +4,16 @@ ghost use Rattle.input_types.specs.declared.message.Args.TheVariants.{Key as Key
 ghost use Rattle.key_repeat.specs.Due.{due_of};
 ghost use Rattle.dispatch_calls.specs.declared.reply.Reply.TheVariants.{Dispatched, Repeated, Idle};
 ghost use Rattle.dispatch_history.specs.Reply.{is_due};
-ghost use Rattle.dispatch_round.specs.Rounds.{IsTimely};
-ghost use Rattle.dispatch_channels.specs.Table.{IsOpened};
+ghost use Rattle.dispatcher.specs.DispatchRound.Rounds.{IsTimely};
+ghost use Rattle.dispatcher.specs.DispatchChannels.Table.{IsOpened};
 ghost use Rattle.dispatcher.specs.Keying.{listening};
 ghost use Rattle.dispatcher.specs.Roomy.{HasPumpRoom, IsRoomy};
 ghost use Rattle.dispatcher.specs.Tables.{Pumps, SameButRoom};
 
 use crate::carry::{no_change, send_key, send_still};
+use crate::key_tables::key_heard;
 use crate::tables::Routing;
 use input_types::{DeviceId, KeyArgs, KeyMsg, Moment};
-use key_tables::key_heard;
 use route_split::Mark;
 use std::alloc::AllocError;
 use window_snapshot::mask_has;

@@ -39,20 +39,30 @@
 #![tactic(auto)]
 
 mod anr;
+pub mod anr_tracker;
+pub mod cancel_synthesis;
 mod cancelled;
 mod carry;
+pub mod dispatch_channels;
+pub mod dispatch_round;
+pub mod dispatch_tables;
 mod dispatcher;
 mod focusing;
+pub mod inbound;
+pub mod input_channel;
 mod key_steps;
+pub mod key_tables;
 mod motions;
 mod outcome;
 mod owners;
+pub mod pointers_by_id;
 mod pumping;
 mod queueing;
 mod reserving;
 mod shown;
 mod stays;
 mod tables;
+pub mod window_covers;
 
 pub use dispatcher::Dispatcher;
 pub use outcome::Outcome;

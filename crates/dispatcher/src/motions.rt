@@ -6,18 +6,18 @@ ghost use Rattle.input_types.specs.declared.message.Args.TheVariants.{Motion as 
 ghost use Rattle.input_types.specs.declared.motion.MotionAction.TheVariants.{Move};
 ghost use Rattle.dispatch_calls.specs.declared.call.Call.TheVariants.{Pilfer};
 ghost use Rattle.dispatch_calls.specs.declared.reply.Reply.TheVariants.{Done, Dispatched};
-ghost use Rattle.dispatch_round.specs.Rounds.{IsTimely};
+ghost use Rattle.dispatcher.specs.DispatchRound.Rounds.{IsTimely};
 ghost use Rattle.dispatcher.specs.Roomy.{HasPumpRoom};
 ghost use Rattle.dispatcher.specs.Tables.{Goes, Pumps, SameButRoom};
 
 use crate::carry::{no_change, send, send_lightly, send_still};
+use crate::dispatch_round::Round;
 use crate::tables::Routing;
+use crate::window_covers::gift_of;
 use dispatch_calls::Reply;
-use dispatch_round::Round;
 use input_types::{DeviceId, Moment, Motion, MotionAction};
 use route_split::{Mark, watchers};
 use std::alloc::AllocError;
-use window_covers::gift_of;
 use window_snapshot::{Window, mask_has};
 
 /// A motion is dispatched.

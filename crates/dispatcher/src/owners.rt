@@ -4,19 +4,19 @@ ghost use Rattle.focus_resolver.specs.Resolver.{is_at};
 ghost use Rattle.dispatch_calls.specs.declared.call.Call.{Call};
 ghost use Rattle.dispatch_calls.specs.declared.reply.Reply.TheVariants.{Gone};
 ghost use Rattle.window_snapshot.specs.Mask.{mask_has};
-ghost use Rattle.input_channel.specs.State.{next_of};
+ghost use Rattle.dispatcher.specs.InputChannel.State.{next_of};
 ghost use Rattle.dispatch_history.specs.Reply.{got_reply};
-ghost use Rattle.dispatch_channels.specs.Table.{channel_of};
-ghost use Rattle.dispatch_round.specs.Rounds.{IsTimely};
+ghost use Rattle.dispatcher.specs.DispatchChannels.Table.{channel_of};
+ghost use Rattle.dispatcher.specs.DispatchRound.Rounds.{IsTimely};
 ghost use Rattle.dispatcher.specs.Outcomes.{reply_of};
 ghost use Rattle.dispatcher.specs.Tables.{Goes, HandsOn};
 
+use crate::key_tables::focusable;
 use crate::outcome::Outcome;
 use crate::tables::Routing;
 use dispatch_calls::Reply;
 use input_types::Moment;
 use key_repeat::Repeat;
-use key_tables::focusable;
 use route_split::Mark;
 use window_snapshot::mask_has;
 

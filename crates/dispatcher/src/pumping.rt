@@ -2,11 +2,11 @@
 ghost use Rattle.std.specs.Prelude.{◌≡◌, ◌≤◌, ◌<◌, ◌+◌, ◌-◌, ◌^◌, ℕ, suc, List, None, Some, Ok, slice_get, if◌then◌else◌};
 ghost use Rattle.std.specs.Prelude.{IfOk, OnOk, OnErr, IsOk, IfSome};
 ghost use Rattle.input_types.specs.DeviceRule.{device_of};
-ghost use Rattle.inbound.specs.Down.{PlansAt};
+ghost use Rattle.dispatcher.specs.InboundArgs.Down.{PlansAt};
 ghost use Rattle.dispatch_calls.specs.declared.call.Call.TheVariants.{Notify, Pump};
 ghost use Rattle.dispatch_history.specs.Effect.{Effect};
 ghost use Rattle.dispatch_history.specs.PointerOf.{RisesIn};
-ghost use Rattle.dispatch_round.specs.Rounds.{IsTimely};
+ghost use Rattle.dispatcher.specs.DispatchRound.Rounds.{IsTimely};
 ghost use Rattle.dispatch_calls.specs.declared.reply.Reply.TheVariants.{Dispatched, Repeated, Idle};
 ghost use Rattle.dispatcher.specs.Outcomes.{reply_of};
 ghost use Rattle.dispatcher.specs.Memory.{IsCalm};
@@ -14,11 +14,11 @@ ghost use Rattle.dispatcher.specs.Roomy.{HasPumpRoom, KeepsPromise};
 ghost use Rattle.dispatcher.specs.Tables.{TablesStandFor, MayStep, Pumps, GoesOn, GoesThrough};
 ghost use Rattle.dispatcher.specs.Tables.{SameButRoom, SameAll};
 
+use crate::inbound::Change;
 use crate::key_steps::{repeat, route_key, route_reset};
 use crate::motions::route_motion;
 use crate::outcome::Outcome;
 use crate::tables::{Routing, Tables};
-use inbound::Change;
 use input_types::{Args, Moment};
 use std::alloc::AllocError;
 

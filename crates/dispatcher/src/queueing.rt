@@ -1,14 +1,14 @@
 //! The clock, how many steps there were, the args that wait, and what is down on each device.
 ghost use Rattle.std.specs.Prelude.{◌≡◌, ◌<◌, ◌≤◌, ◌+◌, ◌-◌, ◌^◌, [], slice_get, Ok, IfOk, OnErr, OnOk, IsOk, option_copied};
 ghost use Rattle.input_types.specs.DeviceRule.{device_of};
-ghost use Rattle.inbound.specs.Down.{PlansAt};
+ghost use Rattle.dispatcher.specs.InboundArgs.Down.{PlansAt};
 ghost use Rattle.dispatch_calls.specs.declared.call.Call.{Call};
 ghost use Rattle.dispatch_calls.specs.declared.reply.Reply.{Reply};
-ghost use Rattle.inbound.specs.Waiting.{put_behind};
+ghost use Rattle.dispatcher.specs.InboundArgs.Waiting.{put_behind};
 ghost use Rattle.dispatcher.specs.Queue.{QueueIs, QueueGoes, Passes};
 ghost use Rattle.dispatcher.specs.Queueing.{stepped, dispatched, with_args_room, with_pumps};
 
-use inbound::{Change, DevicesDown, Inbound, Inconsistent};
+use crate::inbound::{Change, DevicesDown, Inbound, Inconsistent};
 use input_types::{Args, KeyArgs, Moment};
 use std::alloc::{AllocError, Global};
 use std::marker::Model;

@@ -1,7 +1,7 @@
 //! Room for what pumps tell.
 ghost use Rattle.std.specs.Prelude.{◌≡◌, ◌≤◌, ◌<◌, ◌+◌, ◌*◌, ◌^◌, true, OnOk, OnErr, IfOk, IsOk};
 ghost use Rattle.window_snapshot.specs.Mask.{mask_has};
-ghost use Rattle.dispatch_channels.specs.Table.{IsOpened, channel_of, input_of};
+ghost use Rattle.dispatcher.specs.DispatchChannels.Table.{IsOpened, channel_of, input_of};
 ghost use Rattle.dispatcher.specs.Roomy.{HasPumpRoom, HasRoomFor, KeepsPromise};
 ghost use Rattle.dispatcher.specs.Queueing.{with_room};
 ghost use Rattle.dispatcher.specs.Tables.{SameButRoom};

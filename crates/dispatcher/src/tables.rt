@@ -3,15 +3,15 @@ ghost use Rattle.std.specs.Prelude.{◌≡◌, [], IfOk};
 ghost use Rattle.dispatcher.specs.Tables.{TablesStandFor};
 
 use crate::cancelled::Cancelled;
+use crate::dispatch_channels::Channels;
 use crate::queueing::Queueing;
 use crate::shown::Shown;
-use dispatch_channels::Channels;
+use crate::window_covers::Covers;
 use focus_resolver::Focus;
 use input_types::Displays;
 use key_repeat::Repeat;
 use route_split::Touches;
 use std::alloc::{AllocError, Global};
-use window_covers::Covers;
 
 /// What the windows were told of, and all that decides what they are sent next.
 #[derive(Drop)]

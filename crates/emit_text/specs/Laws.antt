@@ -1,6 +1,6 @@
 -- Laws of the answers.
 use Rattle.std.specs.Prelude.{◌≡◌, ℕ, List, [], ◌∷◌, map, reverse, Some, Result, Ok}
-use Rattle.pointer_ids.specs.PointerIds.{assigned, named_after}
+use Rattle.device_reader.specs.PointerIds.PointerIds.{assigned, named_after}
 use Rattle.raw_events.specs.Recording.{recorded}
 use Rattle.stream_judge.specs.Judged.{judged}
 use Rattle.stream_text.specs.StreamFile.{events_of, streams_in}

@@ -4,3 +4,4 @@ pub mod Gestures
 pub mod DeviceRule
 pub mod StreamRule
 pub mod Displays
+pub mod ShortList

@@ -18,6 +18,7 @@ mod message;
 mod motion;
 mod number;
 mod pointer;
+pub mod short_list;
 
 pub use axis::{Axis, Pixel, Rotation};
 pub use display::Displays;

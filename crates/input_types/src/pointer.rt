@@ -4,7 +4,7 @@ ghost use Rattle.input_types.specs.Pointers.{IsRising, EndsBelow, unused};
 
 use crate::axis::Pixel;
 use crate::number::PointerId;
-use short_list::{Blank, ShortList};
+use crate::short_list::{Blank, ShortList};
 use std::marker::Model;
 
 /// One pointer of a motion: its id and where it is.

@@ -6,7 +6,7 @@ use Rattle.input_types.specs.declared.axis.Rotation.TheVariants.{R0}
 use Rattle.raw_events.specs.declared.event.RawEvent.{RawEvent}
 use Rattle.raw_events.specs.Line.{Known, judged, judged_text, formed, fields_of, moment_at, seconds_at, path_at}
 use Rattle.raw_events.specs.Text.{number_at}
-use Rattle.pointer_ids.specs.PointerIds.{assigned, least_free}
+use Rattle.device_reader.specs.PointerIds.PointerIds.{assigned, least_free}
 use Rattle.device_reader.specs.Cooked.{DevicePlan, Touches, Keys}
 use Rattle.session_plan.specs.declared.plan.Step.{Step}
 use Rattle.session_plan.specs.declared.plan.Act.TheVariants.{Remove}

@@ -3,7 +3,7 @@ use Rattle.std.proofs.Common.{◌≡◌, ℕ, ◌-◌, ◌≤◌, List, [], ◌�
 use Rattle.std.specs.Prelude.{codes}
 use Rattle.std.specs.Fmt.{decimal}
 use Rattle.std.proofs.lemmas.List.{take_rest}
-use Rattle.pointer_ids.specs.declared.assigned.Held.{Held}
+use Rattle.device_reader.specs.declared.pointer_ids.assigned.Held.{Held}
 use Rattle.inspect_text.specs.Hints.{behind_commas, hint_front, hint_line, still_down}
 use Rattle.inspect_text.proofs.Scans.{joined_first}
 

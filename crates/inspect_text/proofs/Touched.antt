@@ -7,12 +7,12 @@ use Rattle.input_types.specs.declared.message.Args.{Args}
 use Rattle.input_types.specs.DeviceRule.{DeviceState, device_state}
 use Rattle.raw_events.specs.declared.event.RawEvent.{RawEvent}
 use Rattle.raw_events.specs.Packets.{is_drop, is_report, is_void}
-use Rattle.slot_accumulator.specs.declared.contacts.Contact.{Contact}
-use Rattle.slot_accumulator.specs.SlotContacts.{contacts_at}
-use Rattle.pointer_ids.specs.declared.assigned.Held.{Held}
-use Rattle.pointer_ids.specs.declared.named.Named.{Named}
-use Rattle.pointer_ids.specs.PointerIds.{assigned, by_id, fingers, has_id, joined, least_free, named, named_after, named_from}
-use Rattle.touch_mapper.specs.Gesture.{placed, placed_all}
+use Rattle.device_reader.specs.declared.slot_accumulator.contacts.Contact.{Contact}
+use Rattle.device_reader.specs.SlotAccumulator.SlotContacts.{contacts_at}
+use Rattle.device_reader.specs.declared.pointer_ids.assigned.Held.{Held}
+use Rattle.device_reader.specs.declared.pointer_ids.named.Named.{Named}
+use Rattle.device_reader.specs.PointerIds.PointerIds.{assigned, by_id, fingers, has_id, joined, least_free, named, named_after, named_from}
+use Rattle.device_reader.specs.TouchMapper.Gesture.{placed, placed_all}
 use Rattle.device_reader.specs.Cooked.{TouchPlan, Touches, args_of, device_args, pointers_at}
 use Rattle.device_reader.specs.Packets.{packets, since_drop}
 use Rattle.device_reader.specs.Rule.{down_at}

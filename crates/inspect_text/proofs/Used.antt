@@ -5,10 +5,10 @@ use Rattle.input_types.specs.declared.message.Args.{Args}
 use Rattle.input_types.specs.declared.message.Args.TheVariants.{Reset}
 use Rattle.raw_events.specs.declared.event.RawEvent.{RawEvent}
 use Rattle.raw_events.specs.Packets.{is_drop, is_report, is_void}
-use Rattle.slot_accumulator.specs.SlotContacts.{contacts_at, contacts_of, is_palm, palm_below}
-use Rattle.slot_accumulator.specs.SlotValues.{current, is_abs, is_slot, row, value}
-use Rattle.pointer_ids.specs.PointerIds.{assigned, is_cancelled, named_after}
-use Rattle.touch_mapper.specs.Gesture.{as_args, gesture, placed_all}
+use Rattle.device_reader.specs.SlotAccumulator.SlotContacts.{contacts_at, contacts_of, is_palm, palm_below}
+use Rattle.device_reader.specs.SlotAccumulator.SlotValues.{current, is_abs, is_slot, row, value}
+use Rattle.device_reader.specs.PointerIds.PointerIds.{assigned, is_cancelled, named_after}
+use Rattle.device_reader.specs.TouchMapper.Gesture.{as_args, gesture, placed_all}
 use Rattle.key_mapper.specs.Key.{key_of}
 use Rattle.device_reader.specs.Cooked.{DevicePlan, Keys, KeysPlan, TouchPlan, Touches, args_of, device_args, key_args, key_list, kind_args, number_of, touch_args}
 use Rattle.device_reader.specs.Packets.{is_key, key_event, key_events, packets, since_drop}

@@ -8,7 +8,7 @@ ghost use Rattle.recording_counts.specs.Touch.{TouchTallyStandsFor};
 ghost use Rattle.inspect_text.specs.Hints.{GoesOn, behind_commas, hint_at, hint_front, hint_line, keys_word, scan_words, scans_down, still_down, touch_word};
 ghost use Rattle.inspect_text.specs.Inspected.{each_device, hint_text};
 
-use pointer_ids::Held;
+use device_reader::pointer_ids::Held;
 use recording_counts::{
     DeviceTally, EventCounts, KeyCounts, KeysTally, TallyKind, TouchCounts, TouchTally,
 };

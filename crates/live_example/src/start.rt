@@ -1,8 +1,8 @@
 //! The service at the start: a panel, and two clients with their windows.
+use device_reader::touch_mapper::Cook;
 use input_types::{Axis, DeviceId, DisplayId, Displays, Limit, Moment, Rotation};
 use live_input::{Client, ClientWindow, Live};
 use std::alloc::Global;
-use touch_mapper::Cook;
 use touch_region::{Rect, Region};
 use window_snapshot::{Occlusion, Percent};
 

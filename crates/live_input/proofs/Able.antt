@@ -3,7 +3,7 @@ use Rattle.std.proofs.Common.{◌≡◌, ℕ, ◌==◌, ◌&&◌, ◌||◌, Bool
 use Rattle.std.specs.Prelude.{slice_get}
 use Rattle.std.specs.List.{list_any}
 use Rattle.std.proofs.lemmas.Bool.{true≢false, and_from, cases_Bool}
-use Rattle.input_channel.specs.State.{ChannelState}
+use Rattle.dispatcher.specs.InputChannel.State.{ChannelState}
 use Rattle.input_types.specs.declared.message.Body.{Body}
 use Rattle.input_types.specs.declared.message.Message.{Message}
 use Rattle.dispatch_calls.specs.declared.call.Call.{Call}
@@ -16,10 +16,10 @@ use Rattle.dispatch_history.specs.Effects.{effect_of, step, said_at}
 use Rattle.dispatch_history.specs.History.{clock, live}
 use Rattle.dispatch_history.specs.Queue.{args_of, inbound}
 use Rattle.dispatch_history.proofs.AbleLaws.{unresponsive_step}
-use Rattle.dispatch_tables.specs.Channel.{Opens, Receives, Finishes, Untouched, part_of, with_part, channel_at, enqueued_all}
-use Rattle.dispatch_tables.specs.Lawful.{Lawful}
-use Rattle.dispatch_tables.proofs.Channels.{channel_step}
-use Rattle.dispatch_tables.proofs.Lawfuls.{lawful_always, lawful_last}
+use Rattle.dispatcher.specs.DispatchTables.Channel.{Opens, Receives, Finishes, Untouched, part_of, with_part, channel_at, enqueued_all}
+use Rattle.dispatcher.specs.DispatchTables.Lawful.{Lawful}
+use Rattle.dispatcher.proofs.DispatchTables.Channels.{channel_step}
+use Rattle.dispatcher.proofs.DispatchTables.Lawfuls.{lawful_always, lawful_last}
 use Rattle.live_input.proofs.Reported.{tick_mask}
 
 -- only a finish takes from the unfinished messages

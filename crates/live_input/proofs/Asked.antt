@@ -11,7 +11,7 @@ use Rattle.dispatch_history.specs.Delivery.{able, oldest, delivery}
 use Rattle.dispatch_history.specs.Effect.{Effect, past_of}
 use Rattle.dispatch_history.specs.Focus.{focus, may_focus, requested}
 use Rattle.dispatch_history.specs.History.{live, limit_of, snapshot}
-use Rattle.dispatch_tables.specs.Dues.{due_moment}
+use Rattle.dispatcher.specs.DispatchTables.Dues.{due_moment}
 use Rattle.live_input.specs.declared.client.Seat.{Seat}
 use Rattle.live_input.specs.Asking.{client_on, client_of_some, responds}
 use Rattle.live_input.specs.Seats.{client_at, client_of, is_held, seat_of}

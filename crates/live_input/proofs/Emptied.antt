@@ -3,7 +3,7 @@ use Rattle.std.proofs.Common.{◌≡◌, ℕ, zero, suc, ◌<◌, ◌==◌, ◌|
 use Rattle.std.specs.Prelude.{nat_le, nat_lt, slice_get}
 use Rattle.std.proofs.lemmas.Bool.{cases_Bool, eq-eqb, eqb-true, or_parts, true≢false, ltb-false, leb-false}
 use Rattle.focus_resolver.specs.Resolver.{is_at}
-use Rattle.input_channel.specs.Order.{Within}
+use Rattle.dispatcher.specs.InputChannel.Order.{Within}
 use Rattle.input_types.specs.declared.message.Message.{Message}
 use Rattle.window_snapshot.specs.declared.window.Window.{Window}
 use Rattle.window_snapshot.specs.Named.{is_named}
@@ -14,9 +14,9 @@ use Rattle.dispatch_history.specs.Effect.{Effect, past_of, stream}
 use Rattle.dispatch_history.specs.Focus.{asked, requested}
 use Rattle.dispatch_history.specs.History.{received}
 use Rattle.dispatch_history.specs.Legal.{answered}
-use Rattle.dispatch_tables.specs.Lawful.{Lawful}
-use Rattle.dispatch_tables.proofs.Kept.{channel_law}
-use Rattle.dispatch_tables.proofs.Waiting.{with_delivery}
+use Rattle.dispatcher.specs.DispatchTables.Lawful.{Lawful}
+use Rattle.dispatcher.proofs.DispatchTables.Kept.{channel_law}
+use Rattle.dispatcher.proofs.DispatchTables.Waiting.{with_delivery}
 use Rattle.live_input.specs.Closing.{asked_again, forgotten, forgotten_each, forgotten_on, is_requested, without}
 use Rattle.live_input.specs.Settling.{left_call, next_left}
 use Rattle.live_input.specs.Standing.{IsDone}

@@ -10,7 +10,7 @@ use Rattle.input_types.specs.declared.motion.Motion.{Motion}
 use Rattle.input_types.specs.DeviceRule.{DeviceState, after_args, device_of, device_state, nothing_down}
 use Rattle.raw_events.specs.declared.event.RawEvent.{RawEvent}
 use Rattle.raw_events.specs.Packets.{is_report, is_drop, is_void}
-use Rattle.touch_mapper.specs.Gesture.{gesture, as_args}
+use Rattle.device_reader.specs.TouchMapper.Gesture.{gesture, as_args}
 use Rattle.key_layout.specs.Layout.{code_at}
 use Rattle.key_mapper.specs.Key.{KeyEvent, changes, is_press, key_of, meta_of}
 use Rattle.device_reader.specs.Packets.{since_drop, is_key, key_event, key_events}

@@ -17,12 +17,12 @@ use Rattle.dispatch_history.specs.Known.{IsNumbered, NeverFalls}
 use Rattle.dispatch_history.specs.Legal.{answered}
 use Rattle.dispatch_history.specs.Reply.{got_reply, receive_reply, reply_to}
 use Rattle.dispatch_history.proofs.WholeLaws.{numbers_law}
-use Rattle.dispatch_tables.specs.Channel.{NumberedFrom}
-use Rattle.dispatch_tables.specs.Lawful.{Lawful}
-use Rattle.dispatch_tables.proofs.Channels.{numbered, sound, stepped}
-use Rattle.dispatch_tables.proofs.Kept.{channel_law}
-use Rattle.dispatch_tables.proofs.Lawfuls.{lawful_last}
-use Rattle.dispatch_tables.proofs.Waiting.{with_delivery}
+use Rattle.dispatcher.specs.DispatchTables.Channel.{NumberedFrom}
+use Rattle.dispatcher.specs.DispatchTables.Lawful.{Lawful}
+use Rattle.dispatcher.proofs.DispatchTables.Channels.{numbered, sound, stepped}
+use Rattle.dispatcher.proofs.DispatchTables.Kept.{channel_law}
+use Rattle.dispatcher.proofs.DispatchTables.Lawfuls.{lawful_last}
+use Rattle.dispatcher.proofs.DispatchTables.Waiting.{with_delivery}
 use Rattle.dispatcher.specs.Access.{gone, got, messages_of}
 use Rattle.live_input.specs.declared.client.Seat.{Seat}
 use Rattle.live_input.specs.Answers.{for_client, handed}

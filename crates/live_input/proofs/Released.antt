@@ -22,8 +22,8 @@ use Rattle.input_types.specs.DeviceRule.{after_args, device_of}
 use Rattle.std.specs.List.{list_any}
 use Rattle.dispatch_history.specs.Legal.{answered}
 use Rattle.dispatch_history.specs.Reply.{got_reply, id_bits, is_down, is_due, pump_reply, reply_to}
-use Rattle.dispatch_tables.specs.Dues.{is_named as names_some}
-use Rattle.dispatch_tables.proofs.Duties.{anrs_kept_law}
+use Rattle.dispatcher.specs.DispatchTables.Dues.{is_named as names_some}
+use Rattle.dispatcher.proofs.DispatchTables.Duties.{anrs_kept_law}
 use Rattle.dispatcher.specs.Access.{gone, anrs_released}
 use Rattle.dispatcher.specs.Dispatching.{Dispatching}
 use Rattle.focus_resolver.specs.Resolver.{is_at}

@@ -12,9 +12,9 @@ use Rattle.dispatch_history.specs.Due.{is_late_at, mask_of, named}
 use Rattle.dispatch_history.specs.Effect.{Effect, past_of}
 use Rattle.dispatch_history.specs.History.{clock, live, opened}
 use Rattle.dispatch_history.specs.Reply.{reply_to}
-use Rattle.dispatch_tables.specs.Lawful.{Lawful}
-use Rattle.dispatch_tables.proofs.Ables.{named_mask}
-use Rattle.dispatch_tables.proofs.Unopened.{unopened_not_live}
+use Rattle.dispatcher.specs.DispatchTables.Lawful.{Lawful}
+use Rattle.dispatcher.proofs.DispatchTables.Ables.{named_mask}
+use Rattle.dispatcher.proofs.DispatchTables.Unopened.{unopened_not_live}
 use Rattle.live_input.specs.declared.client.Seat.{Seat}
 use Rattle.live_input.specs.Seats.{IsHeld, is_held, seat_of, with_seat}
 use Rattle.live_input.specs.Standing.{IsMaskOfHeld, LiveIs}

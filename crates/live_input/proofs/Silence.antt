@@ -33,8 +33,8 @@ use Rattle.dispatch_history.specs.Reply.{reply_to, pump_reply}
 use Rattle.dispatch_history.specs.Said.{motions_said, keys_said, motion_from}
 use Rattle.dispatch_history.specs.Step.{marks, scene, step_of}
 use Rattle.dispatch_history.proofs.FitLaws.{held_then}
-use Rattle.dispatch_tables.specs.Lawful.{Lawful}
-use Rattle.dispatch_tables.proofs.Lawfuls.{lawful_last}
+use Rattle.dispatcher.specs.DispatchTables.Lawful.{Lawful}
+use Rattle.dispatcher.proofs.DispatchTables.Lawfuls.{lawful_last}
 use Rattle.live_input.proofs.Unshown.{none_pass, no_watcher, no_pointer, not_target, not_focused, no_keys}
 
 -- nothing is sent for pointers if a window holds none, before and after

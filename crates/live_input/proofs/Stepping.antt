@@ -14,9 +14,9 @@ use Rattle.dispatch_history.specs.History.{History, live, live_after, opened, op
 use Rattle.dispatch_history.specs.Legal.{answered}
 use Rattle.dispatch_history.specs.Reply.{reply_to, open_reply}
 use Rattle.window_snapshot.specs.Named.{is_named}
-use Rattle.dispatch_tables.specs.Channel.{Opens, Untouched}
-use Rattle.dispatch_tables.specs.Lawful.{Lawful}
-use Rattle.dispatch_tables.proofs.Lawfuls.{lawful_last}
+use Rattle.dispatcher.specs.DispatchTables.Channel.{Opens, Untouched}
+use Rattle.dispatcher.specs.DispatchTables.Lawful.{Lawful}
+use Rattle.dispatcher.proofs.DispatchTables.Lawfuls.{lawful_last}
 use Rattle.dispatcher.specs.Dispatching.{Dispatching, StandsFor}
 use Rattle.live_input.specs.declared.client.Seat.{Seat}
 use Rattle.live_input.specs.Seats.{IsHeld, with_seat}

@@ -3,7 +3,7 @@ use Rattle.std.proofs.Common.{◌≡◌, ℕ, suc, ◌+◌, ◌-◌, ◌≤◌, 
 use Rattle.std.proofs.lemmas.Bool.{true≢false, cases_Bool, cases_eq, cases_lt, eq-eqb, ne_eqb}
 use Rattle.std.proofs.lemmas.List.{length-reverse}
 use Rattle.focus_resolver.specs.Resolver.{is_at}
-use Rattle.input_channel.specs.State.{ChannelState, opened_with, published_at}
+use Rattle.dispatcher.specs.InputChannel.State.{ChannelState, opened_with, published_at}
 use Rattle.input_types.specs.declared.message.Body.{Body}
 use Rattle.input_types.specs.declared.message.Message.{Message}
 use Rattle.window_snapshot.specs.declared.window.Window.{Window}
@@ -18,12 +18,12 @@ use Rattle.dispatch_history.specs.Effects.{step, said_at, sent_by}
 use Rattle.dispatch_history.specs.Focus.{requested, requested_after}
 use Rattle.dispatch_history.specs.History.{clock, opened, opened_after, received, received_after, snapshot, windows_after}
 use Rattle.dispatch_history.specs.PointerOf.{AllRise}
-use Rattle.dispatch_tables.specs.Channel.{Opens, Receives, Finishes, Untouched, part_of, with_part, channel_at, enqueued_all}
-use Rattle.dispatch_tables.specs.Lawful.{Lawful}
-use Rattle.dispatch_tables.proofs.Channels.{channel_step}
-use Rattle.dispatch_tables.proofs.Kept.{quiet_law}
-use Rattle.dispatch_tables.proofs.Lawfuls.{lawful_last}
-use Rattle.dispatch_tables.proofs.Unopened.{unopened_law}
+use Rattle.dispatcher.specs.DispatchTables.Channel.{Opens, Receives, Finishes, Untouched, part_of, with_part, channel_at, enqueued_all}
+use Rattle.dispatcher.specs.DispatchTables.Lawful.{Lawful}
+use Rattle.dispatcher.proofs.DispatchTables.Channels.{channel_step}
+use Rattle.dispatcher.proofs.DispatchTables.Kept.{quiet_law}
+use Rattle.dispatcher.proofs.DispatchTables.Lawfuls.{lawful_last}
+use Rattle.dispatcher.proofs.DispatchTables.Unopened.{unopened_law}
 use Rattle.live_input.specs.declared.client.Seat.{Seat}
 use Rattle.live_input.specs.Seats.{IsHeld, is_held, seat_of, with_seat}
 use Rattle.live_input.specs.Standing.{AreSeated, AreTenants, Begins, IsDone, IsOfHeld, IsOfSome}

@@ -17,7 +17,7 @@ use Rattle.dispatch_history.specs.Known.{known_state, held_ids, held_key, next_r
 use Rattle.dispatch_history.specs.PointerOf.{AllRise}
 use Rattle.dispatch_history.specs.Step.{marks}
 use Rattle.dispatch_history.proofs.WholeLaws.{whole_law}
-use Rattle.dispatch_tables.specs.Lawful.{Lawful}
+use Rattle.dispatcher.specs.DispatchTables.Lawful.{Lawful}
 use Rattle.live_input.proofs.Unshown.{none_pass, no_pointer, not_target, not_focused, no_keys}
 
 pub known_unsent : (ds : List ℕ) (es : List Effect) (w : ℕ) → Lawful ds es → is_named (snapshot (past_of es)) w ≡ false → known_state es w ≡ unsent

@@ -24,8 +24,8 @@ use Rattle.dispatch_history.specs.Keys.{keys, key_given, goes_down, ends, loses_
 use Rattle.dispatch_history.specs.Queue.{inbound, args_of}
 use Rattle.dispatch_history.specs.Step.{marks, scene}
 use Rattle.dispatch_history.proofs.HolderLaws.{holder_law}
-use Rattle.dispatch_tables.specs.Lawful.{Lawful}
-use Rattle.dispatch_tables.proofs.Lawfuls.{lawful_always}
+use Rattle.dispatcher.specs.DispatchTables.Lawful.{Lawful}
+use Rattle.dispatcher.proofs.DispatchTables.Lawfuls.{lawful_always}
 
 -- if nothing of a list passes, nothing of it remains
 pub none_pass : {X : Type 0} (p : X → Bool) → ((x : X) → p x ≡ false) → (xs : List X) → filter p xs ≡ []

@@ -21,7 +21,7 @@ use Rattle.dispatch_history.specs.Legal.{answered}
 use Rattle.dispatch_history.specs.PointerOf.{AllRise}
 use Rattle.dispatch_history.specs.Queue.{accepted}
 use Rattle.dispatch_history.specs.Reply.{reply_to}
-use Rattle.dispatch_tables.specs.Lawful.{Lawful}
+use Rattle.dispatcher.specs.DispatchTables.Lawful.{Lawful}
 use Rattle.dispatcher.specs.Access.{got, messages_of, anrs_released}
 use Rattle.live_input.specs.declared.client.Client.{Client}
 use Rattle.live_input.specs.Answers.{handed}

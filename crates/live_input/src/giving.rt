@@ -21,7 +21,7 @@ ghost use Rattle.live_input.specs.State.{latest};
 use crate::live::Live;
 use crate::refused::ArgsRefused;
 use dispatcher::Outcome;
-use inbound::device_of;
+use dispatcher::inbound::device_of;
 use input_types::{Args, DeviceId, Moment};
 use raw_events::RawEvent;
 use std::alloc::AllocError;

@@ -12,9 +12,9 @@ ghost use Rattle.live_input.specs.State.{latest};
 
 use crate::live::Live;
 use crate::refused::{AddRefused, ArgsRefused};
+use device_reader::touch_mapper::Cook;
 use input_types::{Args, DeviceId, DisplayId, Moment};
 use key_layout::Layout;
-use touch_mapper::Cook;
 
 impl Live {
     /// Plugs in a touch device of a display, with 1 to 16 slots; `cook` turns its positions into pixels. It gets the

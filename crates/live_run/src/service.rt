@@ -1,4 +1,5 @@
 //! A service with a panel: packets go in, and clients take what they are sent.
+use device_reader::touch_mapper::Cook;
 use input_types::{Axis, DeviceId, DisplayId, Displays, Limit, Message, Moment, Rotation};
 use live_input::{Client, ClientWindow, Live};
 use raw_events::codes::{
@@ -6,7 +7,6 @@ use raw_events::codes::{
     SYN_REPORT,
 };
 use std::alloc::{AllocError, Global};
-use touch_mapper::Cook;
 use touch_region::{Rect, Region};
 use window_snapshot::{Occlusion, Percent};
 

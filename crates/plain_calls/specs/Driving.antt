@@ -5,7 +5,7 @@ use Rattle.input_types.specs.declared.message.Args.{Args}
 use Rattle.input_types.specs.declared.message.Args.TheVariants.{Reset}
 use Rattle.input_types.specs.DeviceRule.{device_of}
 use Rattle.raw_events.specs.declared.event.RawEvent.{RawEvent}
-use Rattle.touch_mapper.specs.Cooking.{Cooking}
+use Rattle.device_reader.specs.TouchMapper.Cooking.{Cooking}
 use Rattle.key_layout.specs.Layout.{Codes}
 use Rattle.device_reader.specs.Cooked.{DevicePlan, Touches, Keys}
 use Rattle.device_table.specs.Table.{StandsAt, is_there, reader_of}

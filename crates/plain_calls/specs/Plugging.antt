@@ -4,7 +4,7 @@ use Rattle.std.specs.Option.{option_and_then}
 use Rattle.input_types.specs.declared.axis.Axis.{Axis}
 use Rattle.input_types.specs.declared.axis.Rotation.{Rotation}
 use Rattle.input_types.specs.declared.axis.Rotation.TheVariants.{R0, R90, R180, R270}
-use Rattle.touch_mapper.specs.Cooking.{Cooking, can_cook}
+use Rattle.device_reader.specs.TouchMapper.Cooking.{Cooking, can_cook}
 use Rattle.plain_calls.specs.declared.plugging.PlainAxis.{PlainAxis}
 use Rattle.plain_calls.specs.declared.plugging.PlainCook.{PlainCook}
 

@@ -8,9 +8,9 @@ ghost use Rattle.plain_calls.specs.Replies.{add_status};
 
 use crate::numbers::display_of;
 use crate::status::{BAD_SLOTS, OK, RANGE, TOO_MANY};
+use device_reader::touch_mapper::Cook;
 use input_types::{Axis, Rotation};
 use live_input::{AddRefused, Live};
-use touch_mapper::Cook;
 
 /// The range of the raw positions of a panel on one axis, both ends included: `struct inputflinger_axis`.
 #[repr(C)]

@@ -3,8 +3,8 @@ use Rattle.std.specs.Prelude.{codes, ◌≡◌, ℕ, ℤ, pos, negsuc, true, fal
 use Rattle.raw_events.specs.declared.event.RawEvent.{RawEvent}
 use Rattle.raw_events.specs.Line.{Known, judged, judged_text, formed, fields_of, moment_at, seconds_at, path_at}
 use Rattle.raw_events.specs.Text.{number_at}
-use Rattle.pointer_ids.specs.declared.assigned.Held.{Held}
-use Rattle.pointer_ids.specs.PointerIds.{assigned, least_free}
+use Rattle.device_reader.specs.declared.pointer_ids.assigned.Held.{Held}
+use Rattle.device_reader.specs.PointerIds.PointerIds.{assigned, least_free}
 use Rattle.recording_counts.specs.declared.touch.Ranges.{Ranges}
 use Rattle.recording_counts.specs.Events.{event_counts, is_keys_used, is_touch_used}
 use Rattle.recording_counts.specs.Lines.{begins_marked, is_blank_line, is_event_line, is_other_line, is_unknown_line, path_named}

@@ -3,8 +3,8 @@ use Rattle.std.specs.Prelude.{◌≡◌, ℕ, true, false, List, [], ◌∷◌}
 use Rattle.std.proofs.Common.{sym, ◌∙◌}
 use Rattle.raw_events.specs.declared.event.RawEvent.{RawEvent}
 use Rattle.raw_events.specs.Packets.{is_drop, is_void}
-use Rattle.slot_accumulator.specs.SlotContacts.{SlotsStandFor}
-use Rattle.pointer_ids.specs.PointerIds.{named_after, assigned}
+use Rattle.device_reader.specs.SlotAccumulator.SlotContacts.{SlotsStandFor}
+use Rattle.device_reader.specs.PointerIds.PointerIds.{named_after, assigned}
 use Rattle.recording_counts.specs.declared.touch.Touching.{Touching}
 use Rattle.recording_counts.specs.Touch.{TouchesAfter}
 

@@ -2,7 +2,7 @@
 use Rattle.std.specs.Prelude.{Bool, ◌||◌, List, [], ◌∷◌, filter, if◌then◌else◌}
 use Rattle.raw_events.specs.declared.event.RawEvent.{RawEvent}
 use Rattle.raw_events.specs.Packets.{is_report, is_drop, is_void}
-use Rattle.slot_accumulator.specs.SlotValues.{is_abs}
+use Rattle.device_reader.specs.SlotAccumulator.SlotValues.{is_abs}
 use Rattle.device_reader.specs.Packets.{is_key}
 use Rattle.recording_counts.specs.Counted.{counted}
 use Rattle.recording_counts.specs.declared.events.EventCounts.{EventCounts}

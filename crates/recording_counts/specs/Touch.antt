@@ -4,11 +4,11 @@ use Rattle.std.specs.List.{list_any}
 use Rattle.input_types.specs.declared.axis.Axis.{Axis}
 use Rattle.raw_events.specs.declared.event.RawEvent.{RawEvent}
 use Rattle.raw_events.specs.Packets.{is_report, is_void}
-use Rattle.slot_accumulator.specs.declared.contacts.Contact.{Contact}
-use Rattle.slot_accumulator.specs.SlotContacts.{contacts_at, SlotsStandFor}
-use Rattle.slot_accumulator.specs.SlotValues.{is_abs}
-use Rattle.pointer_ids.specs.declared.assigned.Held.{Held}
-use Rattle.pointer_ids.specs.PointerIds.{named_after, assigned, fingers}
+use Rattle.device_reader.specs.declared.slot_accumulator.contacts.Contact.{Contact}
+use Rattle.device_reader.specs.SlotAccumulator.SlotContacts.{contacts_at, SlotsStandFor}
+use Rattle.device_reader.specs.SlotAccumulator.SlotValues.{is_abs}
+use Rattle.device_reader.specs.declared.pointer_ids.assigned.Held.{Held}
+use Rattle.device_reader.specs.PointerIds.PointerIds.{named_after, assigned, fingers}
 use Rattle.device_reader.specs.Cooked.{TouchPlan}
 use Rattle.device_reader.specs.Packets.{since_drop, packets}
 use Rattle.recording_counts.specs.Counted.{counted, greatest}

@@ -2,16 +2,16 @@
 ghost use Rattle.std.specs.Prelude.{◌≡◌, ◌∷◌, [], Bool, List};
 ghost use Rattle.raw_events.specs.declared.event.RawEvent.{RawEvent as Event};
 ghost use Rattle.raw_events.specs.Packets.{is_drop as drops, is_void};
-ghost use Rattle.slot_accumulator.specs.SlotValues.{is_abs};
+ghost use Rattle.device_reader.specs.SlotAccumulator.SlotValues.{is_abs};
 ghost use Rattle.recording_counts.specs.Events.{event_counts, is_touch_used, is_keys_used};
 
 use crate::number::risen_if;
+use device_reader::slot_accumulator::is_report;
 use raw_events::RawEvent;
 use raw_events::codes::{
     ABS_MT_POSITION_X, ABS_MT_POSITION_Y, ABS_MT_SLOT, ABS_MT_TOOL_TYPE, ABS_MT_TRACKING_ID,
     EV_ABS, EV_KEY, EV_SYN, SYN_DROPPED,
 };
-use slot_accumulator::is_report;
 
 /// How many events a device has, how many of them its reader looks at, how many a drop makes void, and how many
 /// SYN_DROPPED that are not void themselves. A void event counts as used too where its kind and code are looked at.

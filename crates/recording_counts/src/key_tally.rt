@@ -13,10 +13,10 @@ ghost use Rattle.recording_counts.specs.KeyTally.{KeysTallyStandsFor, goes_down,
 
 use crate::events::{EventCounts, is_drop, is_keys_used};
 use crate::number::risen_if;
+use device_reader::slot_accumulator::is_report;
 use input_types::Args;
 use raw_events::RawEvent;
 use raw_events::codes::EV_KEY;
-use slot_accumulator::is_report;
 use std::alloc::{AllocError, Global};
 use std::collections::BTreeSet;
 

@@ -2,9 +2,9 @@
 ghost use Rattle.std.specs.Prelude.{◌≡◌, ◌≤◌, ◌∷◌, [], ℕ, List, length, true};
 ghost use Rattle.raw_events.specs.declared.event.RawEvent.{RawEvent as Event};
 ghost use Rattle.raw_events.specs.Packets.{is_void};
-ghost use Rattle.slot_accumulator.specs.declared.contacts.Contact.{Contact as ContactView};
-ghost use Rattle.slot_accumulator.specs.SlotContacts.{SlotsStandFor, contacts_at};
-ghost use Rattle.pointer_ids.specs.PointerIds.{assigned, fingers as fingers_of, named_after};
+ghost use Rattle.device_reader.specs.declared.slot_accumulator.contacts.Contact.{Contact as ContactView};
+ghost use Rattle.device_reader.specs.SlotAccumulator.SlotContacts.{SlotsStandFor, contacts_at};
+ghost use Rattle.device_reader.specs.PointerIds.PointerIds.{assigned, fingers as fingers_of, named_after};
 ghost use Rattle.device_reader.specs.Cooked.{TouchPlan};
 ghost use Rattle.recording_counts.specs.Touch.{TouchTallyStandsFor, TouchesAfter, ends_contact, held_at, is_astray, is_beyond};
 ghost use Rattle.recording_counts.specs.Touch.{is_outside, packet_at, palms as palms_of};
@@ -13,11 +13,11 @@ ghost use Rattle.recording_counts.specs.Events.{event_counts, is_touch_used as t
 
 use crate::events::{EventCounts, is_abs, is_drop, is_touch_used};
 use crate::number::{greater, risen_if};
+use device_reader::pointer_ids::{Assigned, Ids};
+use device_reader::slot_accumulator::{Contact, Contacts, Slots, is_report};
 use input_types::Axis;
-use pointer_ids::{Assigned, Ids};
 use raw_events::RawEvent;
 use raw_events::codes::{ABS_MT_POSITION_X, ABS_MT_POSITION_Y, ABS_MT_SLOT, EV_SYN};
-use slot_accumulator::{Contact, Contacts, Slots, is_report};
 
 /// The ABS_X and ABS_Y of devices that speak no multi-touch protocol.
 const ABS_X: u16 = 0x00;

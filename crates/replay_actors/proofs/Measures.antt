@@ -23,13 +23,13 @@ use Rattle.dispatch_history.specs.Legal.{Legal}
 use Rattle.dispatch_history.specs.Reply.{pump_reply, is_due}
 use Rattle.dispatch_history.proofs.LegalLaws.{effects_law}
 use Rattle.dispatch_history.proofs.StreamLaws.{stream_step}
-use Rattle.dispatch_tables.proofs.Lawfuls.{lawful_effects}
-use Rattle.dispatch_tables.proofs.Silence.{silent_calls}
-use Rattle.dispatch_tables.specs.Silent.{is_silent}
-use Rattle.key_tables.specs.Held.{key_messages}
-use Rattle.key_tables.specs.Repeats.{repeat_after, repeat_next}
-use Rattle.key_tables.proofs.Repeating.{repeat_step}
-use Rattle.key_tables.proofs.Sending.{repeat_read}
+use Rattle.dispatcher.proofs.DispatchTables.Lawfuls.{lawful_effects}
+use Rattle.dispatcher.proofs.DispatchTables.Silence.{silent_calls}
+use Rattle.dispatcher.specs.DispatchTables.Silent.{is_silent}
+use Rattle.dispatcher.specs.KeyTables.Held.{key_messages}
+use Rattle.dispatcher.specs.KeyTables.Repeats.{repeat_after, repeat_next}
+use Rattle.dispatcher.proofs.KeyTables.Repeating.{repeat_step}
+use Rattle.dispatcher.proofs.KeyTables.Sending.{repeat_read}
 use Rattle.replay_actors.proofs.Numbers.{got_at}
 use Rattle.replay_actors.proofs.Staying.{received_published}
 use Rattle.replay_actors.specs.Came.{pumps_left, unreceived}

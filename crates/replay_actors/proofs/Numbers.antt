@@ -12,9 +12,9 @@ use Rattle.dispatch_history.specs.Effects.{effects}
 use Rattle.dispatch_history.specs.Legal.{Legal, reply}
 use Rattle.dispatch_history.specs.Reply.{receive_reply, got_reply}
 use Rattle.dispatch_history.proofs.LegalLaws.{effects_law}
-use Rattle.dispatch_tables.specs.Channel.{NumberedFrom}
-use Rattle.dispatch_tables.proofs.Kept.{numbered_law}
-use Rattle.dispatch_tables.proofs.Lawfuls.{lawful_effects}
+use Rattle.dispatcher.specs.DispatchTables.Channel.{NumberedFrom}
+use Rattle.dispatcher.proofs.DispatchTables.Kept.{numbered_law}
+use Rattle.dispatcher.proofs.DispatchTables.Lawfuls.{lawful_effects}
 use Rattle.replay_actors.specs.Finishing.{given, is_among}
 
 -- n, and then down to 1

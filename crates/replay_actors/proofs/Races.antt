@@ -15,8 +15,8 @@ use Rattle.dispatch_history.specs.Legal.{Legal}
 use Rattle.dispatch_history.specs.Ordered.{is_notified, is_scripted}
 use Rattle.dispatch_history.specs.Settled.{Settled}
 use Rattle.dispatch_history.proofs.LegalLaws.{effects_law}
-use Rattle.dispatch_tables.proofs.Ables.{opened_few}
-use Rattle.dispatch_tables.proofs.Lawfuls.{lawful_effects}
+use Rattle.dispatcher.proofs.DispatchTables.Ables.{opened_few}
+use Rattle.dispatcher.proofs.DispatchTables.Lawfuls.{lawful_effects}
 use Rattle.dispatch_core.specs.Machine.{IsLegal, steps}
 use Rattle.turnstile.specs.History.{Entry as Called, calls_by, of_zero}
 use Rattle.replay_actors.specs.Counting.{ticks, moves, idles}

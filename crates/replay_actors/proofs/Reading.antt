@@ -10,8 +10,8 @@ use Rattle.dispatch_core.specs.Recorded.{Recorded, history_of, effects_of, strea
 use Rattle.dispatch_history.specs.Effect.{past_of, stream}
 use Rattle.dispatch_history.specs.History.{opened}
 use Rattle.dispatch_history.specs.Legal.{Legal}
-use Rattle.dispatch_tables.proofs.Keeping.{kept_unopened}
-use Rattle.dispatch_tables.proofs.Lawfuls.{lawful_effects}
+use Rattle.dispatcher.proofs.DispatchTables.Keeping.{kept_unopened}
+use Rattle.dispatcher.proofs.DispatchTables.Lawfuls.{lawful_effects}
 use Rattle.stream_text.specs.OrderHistory.{lane_from, made_by, order_of_history}
 use Rattle.stream_text.specs.StreamsHistory.{streams_text}
 use Rattle.replay_actors.specs.Texts.{lines_of, race_output, ReadsAgain}

@@ -15,10 +15,10 @@ use Rattle.dispatch_history.specs.Delivery.{able}
 use Rattle.dispatch_history.specs.Focus.{is_target, key_target}
 use Rattle.dispatch_history.specs.Keys.{ends, loses_all, keys}
 use Rattle.dispatch_history.specs.KeySent.{key_cancelled, keys_sent, last_key, repeat_by, repeat_due, while_held}
-use Rattle.dispatch_tables.specs.Lawful.{Lawful}
-use Rattle.key_tables.specs.Held.{key_messages}
-use Rattle.key_tables.specs.Repeats.{repeat_after, repeat_next}
-use Rattle.key_tables.proofs.Repeating.{repeat_step, repeat_left}
+use Rattle.dispatcher.specs.DispatchTables.Lawful.{Lawful}
+use Rattle.dispatcher.specs.KeyTables.Held.{key_messages}
+use Rattle.dispatcher.specs.KeyTables.Repeats.{repeat_after, repeat_next}
+use Rattle.dispatcher.proofs.KeyTables.Repeating.{repeat_step, repeat_left}
 
 -- what is kept once keys were cancelled: nothing, or what was kept where there were none
 cancelled : (now t : ℕ) (ks : List KeyArgs) (last : Option Sent) → (repeat_after now t (map key_cancelled ks) last ≡ None) ⊎ (repeat_after now t (map key_cancelled ks) last ≡ last)

@@ -11,8 +11,8 @@ use Rattle.dispatch_history.specs.Queue.{inbound}
 use Rattle.dispatch_history.specs.Legal.{Legal}
 use Rattle.dispatch_history.specs.Settled.{ticked, Settled}
 use Rattle.dispatch_history.proofs.StreamLaws.{live_law}
-use Rattle.dispatch_tables.specs.Channel.{part_of, Untouched}
-use Rattle.dispatch_tables.specs.Silent.{is_silent}
+use Rattle.dispatcher.specs.DispatchTables.Channel.{part_of, Untouched}
+use Rattle.dispatcher.specs.DispatchTables.Silent.{is_silent}
 use Rattle.replay_actors.specs.Counting.{ticks, ticks_after, idles, idles_after}
 use Rattle.replay_actors.specs.Finishing.{given, IsOrderly, AreOrderly, IsQuiet}
 use Rattle.replay_actors.specs.Race.{Each}

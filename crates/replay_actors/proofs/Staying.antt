@@ -19,11 +19,11 @@ use Rattle.dispatch_history.specs.KeySent.{last_key, repeat_by, repeat_due}
 use Rattle.dispatch_history.specs.Legal.{Legal, reply}
 use Rattle.dispatch_history.specs.Reply.{pump_reply, got_reply, is_due}
 use Rattle.dispatch_history.proofs.LegalLaws.{effects_law}
-use Rattle.dispatch_tables.specs.Channel.{channel_at, part_of, Untouched}
-use Rattle.dispatch_tables.proofs.Keeping.{kept_quiet, kept_facts}
-use Rattle.dispatch_tables.proofs.Lawfuls.{lawful_effects}
-use Rattle.dispatch_tables.proofs.Silence.{silent_calls}
-use Rattle.dispatch_tables.specs.Silent.{is_silent}
+use Rattle.dispatcher.specs.DispatchTables.Channel.{channel_at, part_of, Untouched}
+use Rattle.dispatcher.proofs.DispatchTables.Keeping.{kept_quiet, kept_facts}
+use Rattle.dispatcher.proofs.DispatchTables.Lawfuls.{lawful_effects}
+use Rattle.dispatcher.proofs.DispatchTables.Silence.{silent_calls}
+use Rattle.dispatcher.specs.DispatchTables.Silent.{is_silent}
 use Rattle.replay_actors.proofs.Restful.{due_after}
 
 -- no repeat is due at the clock

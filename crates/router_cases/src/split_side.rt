@@ -4,7 +4,7 @@ ghost use Rattle.window_snapshot.specs.Mask.{is_channel};
 ghost use Rattle.route_split.specs.Marking.{IsWhole};
 
 use bits32::Bits32;
-use cancel_synthesis::InputState;
+use dispatcher::cancel_synthesis::InputState;
 use input_types::{Body, DeviceId, Motion};
 use pilfer_monitor::Losses;
 use route_plain::{Said, Turn};

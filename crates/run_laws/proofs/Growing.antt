@@ -14,7 +14,7 @@ use Rattle.dispatch_history.specs.Reply.{reply_to}
 use Rattle.dispatch_history.specs.Queue.{args_of, inbound}
 use Rattle.dispatch_history.specs.Plan.{Plan}
 use Rattle.dispatch_history.specs.Ordered.{Candidate, chosen, extend, receives, round, Rounds, rounds_with, rounds, ordered, Ordered}
-use Rattle.dispatch_tables.proofs.Numbering.{length-sent_on}
+use Rattle.dispatcher.proofs.DispatchTables.Numbering.{length-sent_on}
 use Rattle.schedule.specs.Run.{messages_in}
 use Rattle.run_laws.specs.Laws.{OneOutcome}
 use Rattle.dispatch_history.proofs.OrderedLaws.{reached, stays}

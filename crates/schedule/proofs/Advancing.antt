@@ -18,7 +18,7 @@ use Rattle.std.proofs.lemmas.Option.{slice_get-map, get_or_from_slice_get, slice
 use Rattle.schedule.specs.declared.plan.Step.{Step}
 use Rattle.schedule.specs.Planned.{step_of, IsStep}
 use Rattle.dispatcher.specs.Access.{next_repeat}
-use Rattle.dispatch_tables.specs.Lawful.{Lawful}
+use Rattle.dispatcher.specs.DispatchTables.Lawful.{Lawful}
 use Rattle.schedule.specs.Choosing.{Advances, dues_of, is_before, is_due_by, kept_first, first_step, next_finishes, repeat_at, tick_of}
 use Rattle.schedule.proofs.Choosing.{dues_first, tick_later, step_soonest, step_later, no_step}
 use Rattle.schedule.specs.DueView.{call_of, candidate_of, sooner_due}

@@ -13,13 +13,13 @@ use Rattle.dispatch_history.specs.Effects.{step, said_at}
 use Rattle.dispatch_history.specs.Delivery.{published, delivery}
 use Rattle.dispatch_history.specs.Ordered.{is_receive_of, received_at}
 use Rattle.dispatch_history.specs.Reply.{reply_to, receive_reply, got_reply}
-use Rattle.dispatch_tables.specs.Lawful.{Lawful}
-use Rattle.dispatch_tables.specs.Channel.{Part, Opens, Receives, Finishes, Untouched, part_of, NumberedFrom}
+use Rattle.dispatcher.specs.DispatchTables.Lawful.{Lawful}
+use Rattle.dispatcher.specs.DispatchTables.Channel.{Part, Opens, Receives, Finishes, Untouched, part_of, NumberedFrom}
 use Rattle.schedule.specs.State.{Behind}
-use Rattle.dispatch_tables.proofs.Lawfuls.{lawful_last}
-use Rattle.dispatch_tables.proofs.Channels.{numbered, sound, stepped}
-use Rattle.dispatch_tables.proofs.Parts.{received_by, CanBe}
-use Rattle.dispatch_tables.proofs.Stepping.{Stepped, Sound}
+use Rattle.dispatcher.proofs.DispatchTables.Lawfuls.{lawful_last}
+use Rattle.dispatcher.proofs.DispatchTables.Channels.{numbered, sound, stepped}
+use Rattle.dispatcher.proofs.DispatchTables.Parts.{received_by, CanBe}
+use Rattle.dispatcher.proofs.DispatchTables.Stepping.{Stepped, Sound}
 
 -- the number of a message is its place
 pub numbered_get : (n i : ℕ) (ms : List Message) (m : Message) → NumberedFrom n ms → slice_get ms i ≡ Some m → m.seq ≡ suc (n + i)

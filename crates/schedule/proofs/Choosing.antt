@@ -12,7 +12,7 @@ use Rattle.dispatch_history.specs.Due.{Due, first_due}
 use Rattle.dispatch_history.specs.Plan.{Plan, ScriptStep}
 use Rattle.dispatch_history.specs.Ordered.{Candidate, sooner_of, soonest, all_finishes, due_tick, due_repeat, next_step, scripted}
 use Rattle.dispatcher.specs.Access.{any_waits, next_repeat}
-use Rattle.dispatch_tables.specs.Lawful.{Lawful}
+use Rattle.dispatcher.specs.DispatchTables.Lawful.{Lawful}
 use Rattle.schedule.specs.declared.due.Due.{Due as Found}
 use Rattle.schedule.specs.DueView.{candidate_of, sooner_due}
 use Rattle.schedule.specs.Choosing.{dues_of, is_before, is_due_by, next_finishes, tick_of, repeat_at}

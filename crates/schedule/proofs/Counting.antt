@@ -7,8 +7,8 @@ use Rattle.dispatch_history.specs.History.{live, opened, received, finished}
 use Rattle.dispatch_history.specs.Effect.{Effect, past_of, stream}
 use Rattle.dispatch_history.specs.Delivery.{published}
 use Rattle.dispatch_history.specs.Due.{counts}
-use Rattle.dispatch_tables.specs.Lawful.{Lawful}
-use Rattle.dispatch_tables.proofs.Ables.{live_number}
+use Rattle.dispatcher.specs.DispatchTables.Lawful.{Lawful}
+use Rattle.dispatcher.proofs.DispatchTables.Ables.{live_number}
 use Rattle.dispatcher.specs.Access.{is_opened}
 use Rattle.schedule.specs.Receives.{receives_of}
 

@@ -8,10 +8,10 @@ use Rattle.dispatch_history.specs.History.{clock}
 use Rattle.dispatch_history.specs.Effect.{Effect, past_of, stream}
 use Rattle.dispatch_history.specs.Effects.{step, said_at}
 use Rattle.stream_text.specs.Spelling.{message_line, message_lines}
-use Rattle.dispatch_tables.specs.Lawful.{Lawful}
-use Rattle.dispatch_tables.proofs.Lawfuls.{lawful_last}
-use Rattle.dispatch_tables.proofs.Channels.{sound, stepped}
-use Rattle.dispatch_tables.proofs.Numbering.{messages_from, reverse_sent}
+use Rattle.dispatcher.specs.DispatchTables.Lawful.{Lawful}
+use Rattle.dispatcher.proofs.DispatchTables.Lawfuls.{lawful_last}
+use Rattle.dispatcher.proofs.DispatchTables.Channels.{sound, stepped}
+use Rattle.dispatcher.proofs.DispatchTables.Numbering.{messages_from, reverse_sent}
 use Rattle.schedule.specs.Lines.{lines_first}
 
 pub lines_next : (ms : List Message) (m : Message) → message_lines (ms ++ m ∷ []) ≡ message_lines ms ++ message_line m

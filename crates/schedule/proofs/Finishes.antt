@@ -5,19 +5,19 @@ use Rattle.std.proofs.lemmas.List.{length-reverse, length-take, map-append}
 use Rattle.std.proofs.lemmas.List.Elements.{filter-append}
 use Rattle.std.proofs.lemmas.List.Sums.{fold-append}
 use Rattle.input_types.specs.declared.message.Message.{Message}
-use Rattle.input_channel.specs.declared.unfinished.Unfinished.{Unfinished}
-use Rattle.input_channel.specs.Order.{Follow, IsInOrder}
+use Rattle.dispatcher.specs.declared.input_channel.unfinished.Unfinished.{Unfinished}
+use Rattle.dispatcher.specs.InputChannel.Order.{Follow, IsInOrder}
 use Rattle.dispatch_history.specs.History.{live, received}
 use Rattle.dispatch_history.specs.Effect.{Effect, past_of, stream}
 use Rattle.dispatch_history.specs.Effects.{channels}
 use Rattle.dispatch_history.specs.Delivery.{published, delivery, is_finished, unfinished}
 use Rattle.dispatch_history.specs.Plan.{ChannelOf}
 use Rattle.dispatch_history.specs.Ordered.{Candidate, sooner_of, received_at, finishes_of, all_finishes}
-use Rattle.dispatch_tables.specs.Lawful.{Lawful}
-use Rattle.dispatch_tables.specs.Channel.{NumberedFrom, channel_at}
-use Rattle.dispatch_tables.proofs.Channels.{numbered}
-use Rattle.dispatch_tables.proofs.Numbering.{numbered-take}
-use Rattle.dispatch_tables.proofs.Kept.{channel_law}
+use Rattle.dispatcher.specs.DispatchTables.Lawful.{Lawful}
+use Rattle.dispatcher.specs.DispatchTables.Channel.{NumberedFrom, channel_at}
+use Rattle.dispatcher.proofs.DispatchTables.Channels.{numbered}
+use Rattle.dispatcher.proofs.DispatchTables.Numbering.{numbered-take}
+use Rattle.dispatcher.proofs.DispatchTables.Kept.{channel_law}
 use Rattle.schedule.specs.Choosing.{next_finishes}
 use Rattle.schedule.specs.Next.{sooner_with, finish_at, oldest_pair, next_finish}
 use Rattle.schedule.specs.State.{Caught}

@@ -3,7 +3,7 @@ use Rattle.std.proofs.Common.{◌≡◌, ℕ, ◌+◌, ◌≤◌, ◌&&◌, Bool
 use Rattle.std.specs.Prelude.{is_some, option_map, slice_get}
 use Rattle.std.proofs.lemmas.Bool.Decides.{nat_tests}
 use Rattle.input_types.specs.declared.message.Message.{Message}
-use Rattle.input_channel.specs.Order.{NoneAfter}
+use Rattle.dispatcher.specs.InputChannel.Order.{NoneAfter}
 use Rattle.dispatch_calls.specs.declared.call.Call.TheVariants.{Finish}
 use Rattle.dispatch_history.specs.Delivery.{delivery, oldest, unfinished}
 use Rattle.dispatch_history.specs.Effect.{Effect, past_of}
@@ -11,8 +11,8 @@ use Rattle.dispatch_history.specs.History.{clock, live}
 use Rattle.dispatch_history.specs.Ordered.{Candidate}
 use Rattle.dispatch_history.specs.Plan.{ChannelOf}
 use Rattle.dispatcher.specs.Access.{oldest_delivery}
-use Rattle.dispatch_tables.specs.Lawful.{Lawful}
-use Rattle.dispatch_tables.proofs.Kept.{none_after_clock}
+use Rattle.dispatcher.specs.DispatchTables.Lawful.{Lawful}
+use Rattle.dispatcher.proofs.DispatchTables.Kept.{none_after_clock}
 use Rattle.schedule.specs.declared.due.Due.{Due}
 use Rattle.schedule.specs.Choosing.{is_due_by}
 use Rattle.schedule.specs.DueView.{candidate_of}

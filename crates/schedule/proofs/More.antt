@@ -7,8 +7,8 @@ use Rattle.dispatch_history.specs.Effects.{step}
 use Rattle.dispatch_history.specs.Legal.{answered}
 use Rattle.dispatch_history.specs.Ordered.{extend}
 use Rattle.dispatcher.specs.Dispatching.{Dispatching, IsAfter}
-use Rattle.dispatch_tables.specs.Lawful.{Lawful}
-use Rattle.dispatch_tables.proofs.Lawfuls.{lawful_last}
+use Rattle.dispatcher.specs.DispatchTables.Lawful.{Lawful}
+use Rattle.dispatcher.proofs.DispatchTables.Lawfuls.{lawful_last}
 use Rattle.why_lines.specs.Explaining.{MayMake}
 use Rattle.schedule.specs.More.{ComesTo}
 use Rattle.schedule.proofs.Receiving.{extend_append}

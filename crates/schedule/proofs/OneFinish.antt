@@ -12,11 +12,11 @@ use Rattle.dispatch_history.specs.Delivery.{published}
 use Rattle.dispatch_history.specs.Legal.{answered}
 use Rattle.dispatch_history.specs.Ordered.{extend, received_all}
 use Rattle.dispatch_history.specs.Reply.{reply_to}
-use Rattle.dispatch_tables.specs.Lawful.{Lawful}
-use Rattle.dispatch_tables.proofs.Ables.{live_number}
-use Rattle.dispatch_tables.proofs.Channels.{sound, stepped}
-use Rattle.dispatch_tables.proofs.Lawfuls.{lawful_step}
-use Rattle.dispatch_tables.proofs.Silence.{silent_calls}
+use Rattle.dispatcher.specs.DispatchTables.Lawful.{Lawful}
+use Rattle.dispatcher.proofs.DispatchTables.Ables.{live_number}
+use Rattle.dispatcher.proofs.DispatchTables.Channels.{sound, stepped}
+use Rattle.dispatcher.proofs.DispatchTables.Lawfuls.{lawful_step}
+use Rattle.dispatcher.proofs.DispatchTables.Silence.{silent_calls}
 use Rattle.schedule.specs.Receives.{receives_of, receives_to}
 use Rattle.schedule.specs.State.{Caught}
 use Rattle.schedule.proofs.Receiving.{receives_next}

@@ -19,9 +19,9 @@ use Rattle.dispatch_history.specs.Reply.{open_reply}
 use Rattle.dispatch_history.specs.Plan.{Plan, ChannelOf}
 use Rattle.dispatch_history.specs.Given.{opens}
 use Rattle.dispatch_history.specs.Ordered.{extend, begun, scripted, notified}
-use Rattle.dispatch_tables.specs.Lawful.{Lawful}
-use Rattle.dispatch_tables.proofs.Lawfuls.{lawful_step}
-use Rattle.dispatch_tables.proofs.Channels.{sound, stepped}
+use Rattle.dispatcher.specs.DispatchTables.Lawful.{Lawful}
+use Rattle.dispatcher.proofs.DispatchTables.Lawfuls.{lawful_step}
+use Rattle.dispatcher.proofs.DispatchTables.Channels.{sound, stepped}
 use Rattle.schedule.specs.State.{Caught}
 
 -- channels were opened, and nothing else was done

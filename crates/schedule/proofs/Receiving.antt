@@ -18,11 +18,11 @@ use Rattle.dispatch_history.specs.Delivery.{published}
 use Rattle.dispatch_history.specs.Legal.{answered}
 use Rattle.dispatch_history.specs.Reply.{receive_reply}
 use Rattle.dispatch_history.specs.Ordered.{scripted, notified, extend, received_all}
-use Rattle.dispatch_tables.specs.Lawful.{Lawful}
-use Rattle.dispatch_tables.proofs.Lawfuls.{lawful_step}
-use Rattle.dispatch_tables.proofs.Channels.{sound, stepped}
-use Rattle.dispatch_tables.proofs.Silence.{silent_calls}
-use Rattle.dispatch_tables.proofs.Ables.{live_number}
+use Rattle.dispatcher.specs.DispatchTables.Lawful.{Lawful}
+use Rattle.dispatcher.proofs.DispatchTables.Lawfuls.{lawful_step}
+use Rattle.dispatcher.proofs.DispatchTables.Channels.{sound, stepped}
+use Rattle.dispatcher.proofs.DispatchTables.Silence.{silent_calls}
+use Rattle.dispatcher.proofs.DispatchTables.Ables.{live_number}
 use Rattle.schedule.specs.Receives.{receives_of, receives_to}
 use Rattle.schedule.specs.State.{Behind, Caught}
 use Rattle.schedule.proofs.Behind.{behind_step}

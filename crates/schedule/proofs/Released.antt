@@ -5,7 +5,7 @@ use Rattle.std.proofs.lemmas.Bool.{cases_eq, le-leb, true≢false}
 use Rattle.std.proofs.lemmas.List.Sums.{sum_by-append}
 use Rattle.input_types.specs.declared.message.Body.{Body}
 use Rattle.input_types.specs.declared.message.Message.{Message}
-use Rattle.input_channel.specs.Order.{has_seq}
+use Rattle.dispatcher.specs.InputChannel.Order.{has_seq}
 use Rattle.dispatch_calls.specs.declared.call.Call.{Call}
 use Rattle.dispatch_calls.specs.declared.call.Call.TheVariants.{Open, Windows, FocusOn, Notify, Pump, Tick, Receive, Finish, Pilfer, Remove}
 use Rattle.dispatch_calls.specs.declared.reply.Reply.{Reply}
@@ -16,16 +16,16 @@ use Rattle.dispatch_history.specs.Effects.{step, channels, said_at}
 use Rattle.dispatch_history.specs.Delivery.{published, delivery, oldest, unfinished, is_finished}
 use Rattle.dispatch_history.specs.Legal.{answered}
 use Rattle.dispatch_history.specs.Reply.{reply_to}
-use Rattle.dispatch_tables.specs.Lawful.{Lawful}
-use Rattle.dispatch_tables.specs.Silent.{is_silent}
-use Rattle.dispatch_tables.proofs.Channels.{sound, stepped}
-use Rattle.dispatch_tables.proofs.Kept.{channel_law}
-use Rattle.dispatch_tables.proofs.Lawfuls.{lawful_step}
-use Rattle.dispatch_tables.proofs.Numbering.{length-sent_on}
-use Rattle.dispatch_tables.proofs.Silence.{silent_calls}
-use Rattle.dispatch_tables.proofs.Unfinished.{has_seq_law}
-use Rattle.dispatch_tables.proofs.Unopened.{not_live_said}
-use Rattle.dispatch_tables.proofs.Waiting.{with_delivery}
+use Rattle.dispatcher.specs.DispatchTables.Lawful.{Lawful}
+use Rattle.dispatcher.specs.DispatchTables.Silent.{is_silent}
+use Rattle.dispatcher.proofs.DispatchTables.Channels.{sound, stepped}
+use Rattle.dispatcher.proofs.DispatchTables.Kept.{channel_law}
+use Rattle.dispatcher.proofs.DispatchTables.Lawfuls.{lawful_step}
+use Rattle.dispatcher.proofs.DispatchTables.Numbering.{length-sent_on}
+use Rattle.dispatcher.proofs.DispatchTables.Silence.{silent_calls}
+use Rattle.dispatcher.proofs.DispatchTables.Unfinished.{has_seq_law}
+use Rattle.dispatcher.proofs.DispatchTables.Unopened.{not_live_said}
+use Rattle.dispatcher.proofs.DispatchTables.Waiting.{with_delivery}
 use Rattle.dispatcher.specs.Access.{gone}
 use Rattle.dispatcher.specs.Dispatching.{Dispatching, IsAfter}
 use Rattle.schedule.specs.Kinds.{is_finishing}

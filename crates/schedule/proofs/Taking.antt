@@ -9,8 +9,8 @@ use Rattle.dispatch_history.specs.Effect.{Effect, past_of, stream}
 use Rattle.dispatch_history.specs.Delivery.{published, oldest}
 use Rattle.dispatch_history.specs.Plan.{Plan}
 use Rattle.dispatch_history.specs.Ordered.{extend, received_all}
-use Rattle.dispatch_tables.specs.Lawful.{Lawful}
-use Rattle.dispatch_tables.proofs.Ables.{live_number}
+use Rattle.dispatcher.specs.DispatchTables.Lawful.{Lawful}
+use Rattle.dispatcher.proofs.DispatchTables.Ables.{live_number}
 use Rattle.dispatcher.specs.Access.{gone, is_opened}
 use Rattle.dispatcher.specs.Dispatching.{Dispatching}
 use Rattle.schedule.specs.declared.keeping.Lines.{Lines}

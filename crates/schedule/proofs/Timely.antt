@@ -15,8 +15,8 @@ use Rattle.dispatch_history.specs.Legal.{answered}
 use Rattle.dispatch_history.specs.Plan.{ChannelOf}
 use Rattle.dispatch_history.specs.Ordered.{extend, receives, received_all}
 use Rattle.dispatch_history.specs.Reply.{reply_to}
-use Rattle.dispatch_tables.specs.Lawful.{Lawful}
-use Rattle.dispatch_tables.proofs.Lawfuls.{lawful_step}
+use Rattle.dispatcher.specs.DispatchTables.Lawful.{Lawful}
+use Rattle.dispatcher.proofs.DispatchTables.Lawfuls.{lawful_step}
 use Rattle.schedule.specs.Kinds.{is_opening}
 use Rattle.schedule.specs.Receives.{receives_of}
 use Rattle.schedule.specs.State.{Behind, Caught}

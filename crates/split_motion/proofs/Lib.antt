@@ -1,7 +1,4 @@
 pub mod Parts
-pub mod LeastBit
-pub mod ById
-pub mod Walk
 pub mod SplitLaws
 pub mod Keeping
 pub mod Examples

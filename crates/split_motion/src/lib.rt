@@ -15,11 +15,9 @@
 //! routing rules send to a window ([`laws`]).
 #![tactic(auto)]
 
-mod by_id;
 pub mod laws;
 mod listed;
 mod window;
 
-pub use by_id::{PointersById, ids_of};
 pub use listed::{about, part, part_but, plain};
 pub use window::split;

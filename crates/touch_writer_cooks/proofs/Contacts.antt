@@ -5,11 +5,11 @@ use Rattle.std.proofs.Common.{sym, ◌∙◌, ap, subst, refl, arith, append_ass
 use Rattle.std.proofs.lemmas.List.{append-nil}
 use Rattle.std.proofs.lemmas.Bool.{le-leb}
 use Rattle.raw_events.specs.declared.event.RawEvent.{RawEvent}
-use Rattle.slot_accumulator.specs.declared.contacts.Contact.{Contact}
-use Rattle.slot_accumulator.specs.declared.slots.Row.{Row}
-use Rattle.slot_accumulator.specs.SlotValues.{row}
-use Rattle.slot_accumulator.specs.SlotContacts.{lower_has, holds, contact, contacts_of, contacts_at, is_palm}
-use Rattle.pointer_ids.specs.PointerIds.{fingers}
+use Rattle.device_reader.specs.declared.slot_accumulator.contacts.Contact.{Contact}
+use Rattle.device_reader.specs.declared.slot_accumulator.slots.Row.{Row}
+use Rattle.device_reader.specs.SlotAccumulator.SlotValues.{row}
+use Rattle.device_reader.specs.SlotAccumulator.SlotContacts.{lower_has, holds, contact, contacts_of, contacts_at, is_palm}
+use Rattle.device_reader.specs.PointerIds.PointerIds.{fingers}
 use Rattle.touch_writer.specs.declared.place.Place.{Place}
 use Rattle.touch_writer.specs.declared.place.Touch.{Touch}
 use Rattle.touch_writer.specs.Places.{tracking, tracking_of}

@@ -2,10 +2,10 @@
 use Rattle.std.specs.Prelude.{◌≡◌, ℕ, suc, zero, ◌+◌, ◌<◌, ◌≤◌, false, ℤ, pos, List, [], ◌∷◌, ◌++◌, length, replicate, reverse, negsuc}
 use Rattle.std.proofs.Common.{sym, ◌∙◌, ap, subst, refl, arith}
 use Rattle.raw_events.specs.declared.event.RawEvent.{RawEvent}
-use Rattle.slot_accumulator.specs.SlotValues.{current}
-use Rattle.slot_accumulator.specs.SlotContacts.{is_palm, contacts_at}
-use Rattle.pointer_ids.specs.declared.named.Named.{Named}
-use Rattle.pointer_ids.specs.PointerIds.{named_after, named, assigned, has_id}
+use Rattle.device_reader.specs.SlotAccumulator.SlotValues.{current}
+use Rattle.device_reader.specs.SlotAccumulator.SlotContacts.{is_palm, contacts_at}
+use Rattle.device_reader.specs.declared.pointer_ids.named.Named.{Named}
+use Rattle.device_reader.specs.PointerIds.PointerIds.{named_after, named, assigned, has_id}
 use Rattle.touch_writer.specs.declared.place.Place.{Place}
 use Rattle.touch_writer.specs.declared.want.Want.{Want}
 use Rattle.touch_writer.specs.Places.{news, vacant}

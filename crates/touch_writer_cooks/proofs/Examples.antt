@@ -5,8 +5,8 @@ use Rattle.raw_events.specs.declared.event.RawEvent.{RawEvent}
 use Rattle.raw_events.specs.Line.{fields_of, formed, judged, judged_text, moment_at, path_at, seconds_at}
 use Rattle.raw_events.specs.Recording.{recorded}
 use Rattle.raw_events.specs.Text.{number_at}
-use Rattle.pointer_ids.specs.declared.assigned.Held.{Held}
-use Rattle.pointer_ids.specs.PointerIds.{assigned, least_free, named_after}
+use Rattle.device_reader.specs.declared.pointer_ids.assigned.Held.{Held}
+use Rattle.device_reader.specs.PointerIds.PointerIds.{assigned, least_free, named_after}
 use Rattle.touch_writer.specs.declared.want.Want.{Want}
 use Rattle.touch_writer_cooks.specs.Cooking.{Written, contacts_of, events_of}
 

@@ -2,9 +2,9 @@
 use Rattle.std.specs.Prelude.{◌≡◌, ℕ, zero, suc, ◌+◌, ◌<◌, ◌≤◌, ◌⊎◌, Bool, true, false, ◌||◌, nat_eq, nat_lt, cond, pos, List, [], ◌∷◌, ◌++◌, map, find, option_map, Option, Some, None, if◌then◌else◌}
 use Rattle.std.proofs.Common.{sym, ◌∙◌, ap, refl, arith, inl, inr, eq-eqb, ne_eqb}
 use Rattle.std.proofs.lemmas.Bool.{cases_eq, cases_lt, eqb-true, lt-ltb, le-ltb}
-use Rattle.pointer_ids.specs.declared.named.Named.{Named}
-use Rattle.pointer_ids.specs.declared.assigned.Held.{Held}
-use Rattle.pointer_ids.specs.PointerIds.{held, joined, by_id, assigned}
+use Rattle.device_reader.specs.declared.pointer_ids.named.Named.{Named}
+use Rattle.device_reader.specs.declared.pointer_ids.assigned.Held.{Held}
+use Rattle.device_reader.specs.PointerIds.PointerIds.{held, joined, by_id, assigned}
 use Rattle.touch_writer.specs.declared.place.Place.{Place}
 use Rattle.touch_writer.specs.declared.place.Touch.{Touch}
 use Rattle.touch_writer.specs.declared.want.Want.{Want}

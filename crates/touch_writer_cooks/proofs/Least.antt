@@ -2,7 +2,7 @@
 use Rattle.std.specs.Prelude.{◌≡◌, ℕ, zero, suc, ◌+◌, ◌-◌, ◌<◌, ◌≤◌, ◌⊎◌, Bool, true, false, ◌||◌, nat_eq, nat_lt, List, [], ◌∷◌, length, Option, Some, None, if◌then◌else◌}
 use Rattle.std.proofs.Common.{sym, ◌∙◌, ap, refl, arith, inl, inr, eq-eqb, ne_eqb}
 use Rattle.std.proofs.lemmas.Bool.{cases_eq, cases_lt, ltb-true}
-use Rattle.pointer_ids.specs.PointerIds.{least_from, least_free}
+use Rattle.device_reader.specs.PointerIds.PointerIds.{least_from, least_free}
 use Rattle.touch_writer.specs.declared.place.Place.{Place}
 use Rattle.touch_writer.specs.declared.want.Want.{Want}
 use Rattle.touch_writer.specs.declared.error.WriteError.{WriteError}

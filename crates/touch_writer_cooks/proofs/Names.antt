@@ -3,9 +3,9 @@ use Rattle.std.specs.Prelude.{◌≡◌, ℕ, ◌+◌, ◌≤◌, Bool, true, fa
 use Rattle.std.specs.Ordering.{int_eq}
 use Rattle.std.proofs.Common.{sym, ◌∙◌, ap, refl, arith}
 use Rattle.std.proofs.lemmas.Bool.Decides.{Decides-int_eq}
-use Rattle.slot_accumulator.specs.declared.contacts.Contact.{Contact}
-use Rattle.pointer_ids.specs.declared.named.Named.{Named}
-use Rattle.pointer_ids.specs.PointerIds.{has_id as has_name, id_in, least_free, named_from, named}
+use Rattle.device_reader.specs.declared.slot_accumulator.contacts.Contact.{Contact}
+use Rattle.device_reader.specs.declared.pointer_ids.named.Named.{Named}
+use Rattle.device_reader.specs.PointerIds.PointerIds.{has_id as has_name, id_in, least_free, named_from, named}
 use Rattle.touch_writer.specs.declared.place.Place.{Place}
 use Rattle.touch_writer.specs.declared.place.Touch.{Touch}
 use Rattle.touch_writer.specs.declared.want.Want.{Want}

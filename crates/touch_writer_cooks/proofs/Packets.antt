@@ -4,9 +4,9 @@ use Rattle.std.specs.Ordering.{int_eq}
 use Rattle.std.proofs.Common.{sym, ◌∙◌, ap, subst, refl, arith, eq-eqb, ne_eqb}
 use Rattle.std.proofs.lemmas.Bool.{eqb-true, and_right}
 use Rattle.raw_events.specs.declared.event.RawEvent.{RawEvent}
-use Rattle.slot_accumulator.specs.declared.slots.Row.{Row}
-use Rattle.slot_accumulator.specs.SlotValues.{is_slot, current, row}
-use Rattle.slot_accumulator.specs.SlotContacts.{is_palm, palm_below, holds, holds_palm, has_palm_tool}
+use Rattle.device_reader.specs.declared.slot_accumulator.slots.Row.{Row}
+use Rattle.device_reader.specs.SlotAccumulator.SlotValues.{is_slot, current, row}
+use Rattle.device_reader.specs.SlotAccumulator.SlotContacts.{is_palm, palm_below, holds, holds_palm, has_palm_tool}
 use Rattle.touch_writer.specs.declared.place.Place.{Place}
 use Rattle.touch_writer.specs.Places.{place_at}
 use Rattle.touch_writer.specs.Packet.{changes, others, in_slot, abs, report, is_empty, last_slot}

@@ -5,8 +5,8 @@ use Rattle.std.proofs.Common.{sym, ◌∙◌, ap, refl, append_assoc, eq-eqb}
 use Rattle.std.proofs.lemmas.List.{reverse-append}
 use Rattle.std.proofs.lemmas.Bool.Decides.{Decides-int_eq}
 use Rattle.raw_events.specs.declared.event.RawEvent.{RawEvent}
-use Rattle.slot_accumulator.specs.declared.slots.Row.{Row}
-use Rattle.slot_accumulator.specs.SlotValues.{is_slot, current, row, row_after}
+use Rattle.device_reader.specs.declared.slot_accumulator.slots.Row.{Row}
+use Rattle.device_reader.specs.SlotAccumulator.SlotValues.{is_slot, current, row, row_after}
 use Rattle.touch_writer.specs.declared.place.Place.{Place}
 use Rattle.touch_writer.specs.Places.{tracking}
 use Rattle.touch_writer.specs.Packet.{said, changes, in_slot, abs, report, is_empty}

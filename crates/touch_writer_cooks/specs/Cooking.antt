@@ -1,10 +1,10 @@
 -- What cooking gets from the packets of a writer. Packets and events are newest first.
 use Rattle.std.specs.Prelude.{◌≡◌, ℕ, ◌<◌, ◌≤◌, Bool, List, [], ◌∷◌, ◌++◌, map, reverse, replicate, None}
 use Rattle.raw_events.specs.declared.event.RawEvent.{RawEvent}
-use Rattle.slot_accumulator.specs.declared.contacts.Contact.{Contact}
-use Rattle.slot_accumulator.specs.SlotContacts.{contacts_at}
-use Rattle.pointer_ids.specs.declared.assigned.Held.{Held}
-use Rattle.pointer_ids.specs.PointerIds.{named_after, assigned}
+use Rattle.device_reader.specs.declared.slot_accumulator.contacts.Contact.{Contact}
+use Rattle.device_reader.specs.SlotAccumulator.SlotContacts.{contacts_at}
+use Rattle.device_reader.specs.declared.pointer_ids.assigned.Held.{Held}
+use Rattle.device_reader.specs.PointerIds.PointerIds.{named_after, assigned}
 use Rattle.touch_writer.specs.declared.want.Want.{Want}
 use Rattle.touch_writer.specs.Places.{IsRising, news, vacant}
 use Rattle.touch_writer.specs.Choice.{IsChoice}

@@ -18,9 +18,9 @@ use Rattle.dispatch_history.specs.Keys.{keys, same_key}
 use Rattle.dispatch_history.specs.Queue.{args_of, inbound}
 use Rattle.dispatch_history.specs.Step.{scene}
 use Rattle.dispatch_history.proofs.HolderLaws.{holder_law}
-use Rattle.dispatch_tables.specs.Lawful.{Lawful}
-use Rattle.dispatch_tables.proofs.Lawfuls.{lawful_last}
-use Rattle.key_tables.proofs.Holders.{keys_of_target}
+use Rattle.dispatcher.specs.DispatchTables.Lawful.{Lawful}
+use Rattle.dispatcher.proofs.DispatchTables.Lawfuls.{lawful_last}
+use Rattle.dispatcher.proofs.KeyTables.Holders.{keys_of_target}
 use Rattle.why_text.specs.Lost.{holds, ids_item, ids_lost, key_item, lost_items}
 use Rattle.why_text.specs.Words.{ids_that}
 use Rattle.why_lines.specs.Holding.{OnlyHolds}

@@ -16,8 +16,8 @@ use Rattle.dispatch_history.specs.PointerOf.{AllRise}
 use Rattle.dispatch_history.specs.Reply.{pump_reply, reply_to}
 use Rattle.dispatch_history.specs.Step.{scene, step_of}
 use Rattle.dispatch_history.proofs.FitLaws.{fit_law, StepFacts, step_facts}
-use Rattle.dispatch_tables.specs.Lawful.{Lawful}
-use Rattle.dispatch_tables.proofs.Lawfuls.{lawful_step}
+use Rattle.dispatcher.specs.DispatchTables.Lawful.{Lawful}
+use Rattle.dispatcher.proofs.DispatchTables.Lawfuls.{lawful_step}
 use Rattle.why_lines.specs.Coming.{MayCome}
 
 -- a pump dispatches what waits

@@ -9,7 +9,7 @@ use Rattle.dispatch_history.specs.Effects.{effect_of}
 use Rattle.dispatch_history.specs.History.{live, received}
 use Rattle.dispatch_history.specs.Queue.{args_of, inbound}
 use Rattle.dispatch_history.proofs.AbleLaws.{unresponsive_step}
-use Rattle.dispatch_tables.proofs.Lawfuls.{lawful_last}
+use Rattle.dispatcher.proofs.DispatchTables.Lawfuls.{lawful_last}
 use Rattle.why_text.specs.Lines.{call_words}
 use Rattle.why_lines.specs.Laws.{FinishLaw}
 use Rattle.why_lines.specs.Owners.{again_words}

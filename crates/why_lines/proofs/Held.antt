@@ -10,7 +10,7 @@ use Rattle.dispatch_history.specs.Effect.{Effect, past_of}
 use Rattle.dispatch_history.specs.Effects.{channels}
 use Rattle.dispatch_history.specs.Focus.{key_target}
 use Rattle.dispatch_history.specs.Keys.{keys}
-use Rattle.dispatch_tables.specs.Lawful.{Lawful}
+use Rattle.dispatcher.specs.DispatchTables.Lawful.{Lawful}
 use Rattle.why_text.specs.Lines.{gone_word, gone_words}
 use Rattle.why_text.specs.Lost.{are_some, holds, ids_item, key_item, lost_items, lost_word}
 use Rattle.why_text.specs.Words.{channels_that, ids_that}

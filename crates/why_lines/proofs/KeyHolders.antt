@@ -11,8 +11,8 @@ use Rattle.dispatch_history.specs.Delivery.{able}
 use Rattle.dispatch_history.specs.Effect.{Effect, past_of}
 use Rattle.dispatch_history.specs.Focus.{is_target, key_target}
 use Rattle.dispatch_history.specs.Keys.{ends, goes_down, is_before, key_given, keys, loses_all, same_key, with_key}
-use Rattle.dispatch_tables.specs.Lawful.{Lawful}
-use Rattle.key_tables.proofs.Holders.{keys_of_target}
+use Rattle.dispatcher.specs.DispatchTables.Lawful.{Lawful}
+use Rattle.dispatcher.proofs.KeyTables.Holders.{keys_of_target}
 use Rattle.why_text.specs.Lines.{first_of, key_holders}
 use Rattle.why_lines.specs.Holding.{if_able, OnlyHolds}
 use Rattle.why_lines.specs.declared.holders.KeyHolder.{KeyHolder}

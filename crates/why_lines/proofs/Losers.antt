@@ -10,8 +10,8 @@ use Rattle.dispatch_history.specs.Effect.{Effect, past_of}
 use Rattle.dispatch_history.specs.Focus.{is_target, key_target}
 use Rattle.dispatch_history.specs.History.{live}
 use Rattle.dispatch_history.specs.Keys.{ends, goes_down, key_given, keys, loses_all, same_key}
-use Rattle.dispatch_tables.specs.Lawful.{Lawful}
-use Rattle.key_tables.proofs.Holders.{keys_of_target}
+use Rattle.dispatcher.specs.DispatchTables.Lawful.{Lawful}
+use Rattle.dispatcher.proofs.KeyTables.Holders.{keys_of_target}
 use Rattle.why_text.specs.Lines.{gone_word}
 use Rattle.why_text.specs.Lost.{are_some, items_word, keys_lost}
 use Rattle.why_text.specs.Text.{line}

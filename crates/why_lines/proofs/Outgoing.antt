@@ -8,8 +8,8 @@ use Rattle.dispatch_history.specs.Effects.{effect_of, step}
 use Rattle.dispatch_history.specs.History.{clock}
 use Rattle.dispatch_history.specs.Queue.{args_of, inbound}
 use Rattle.dispatch_history.specs.Reply.{reply_to}
-use Rattle.dispatch_tables.specs.Lawful.{Lawful}
-use Rattle.dispatch_tables.proofs.Lawfuls.{lawful_last}
+use Rattle.dispatcher.specs.DispatchTables.Lawful.{Lawful}
+use Rattle.dispatcher.proofs.DispatchTables.Lawfuls.{lawful_last}
 use Rattle.dispatcher.specs.Dispatching.{Dispatching, IsAfter}
 use Rattle.why_text.specs.Laws.{is_silent, may_move_focus}
 use Rattle.why_text.specs.Lines.{call_words}

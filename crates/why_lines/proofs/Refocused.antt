@@ -13,7 +13,7 @@ use Rattle.dispatch_history.specs.Focus.{key_target}
 use Rattle.dispatch_history.specs.Keys.{keys}
 use Rattle.dispatch_history.specs.Queue.{args_of, inbound}
 use Rattle.dispatch_history.specs.Step.{marks}
-use Rattle.dispatch_tables.specs.Lawful.{Lawful}
+use Rattle.dispatcher.specs.DispatchTables.Lawful.{Lawful}
 use Rattle.why_text.specs.Lines.{gone_word, gone_words}
 use Rattle.why_text.specs.Lost.{are_some, holds, ids_item, ids_lost, key_item, lost_items, lost_word}
 use Rattle.why_text.specs.Words.{ids_that}

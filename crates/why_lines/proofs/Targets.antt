@@ -9,8 +9,8 @@ use Rattle.dispatch_history.specs.Effect.{Effect, past_of}
 use Rattle.dispatch_history.specs.Due.{counts}
 use Rattle.dispatch_history.specs.Focus.{asked, key_target, may_focus, requested}
 use Rattle.dispatch_history.proofs.StreamLaws.{live_law}
-use Rattle.dispatch_tables.specs.Lawful.{Lawful}
-use Rattle.dispatch_tables.proofs.Ables.{opened_few}
+use Rattle.dispatcher.specs.DispatchTables.Lawful.{Lawful}
+use Rattle.dispatcher.proofs.DispatchTables.Ables.{opened_few}
 use Rattle.dispatcher.specs.Access.{is_opened}
 
 same_number : (c t : ℕ) → Some c ≡ Some t → c ≡ t

@@ -16,10 +16,10 @@ use Rattle.dispatch_history.specs.History.{clock, limit_of, live}
 use Rattle.dispatch_history.specs.Queue.{args_of, inbound}
 use Rattle.dispatch_history.specs.Reply.{is_due, reply_to}
 use Rattle.dispatch_history.proofs.AbleLaws.{unresponsive_step}
-use Rattle.dispatch_tables.specs.Dues.{due_moment}
-use Rattle.dispatch_tables.specs.Lawful.{Lawful}
-use Rattle.dispatch_tables.proofs.Duties.{named_law}
-use Rattle.dispatch_tables.proofs.Lawfuls.{lawful_last}
+use Rattle.dispatcher.specs.DispatchTables.Dues.{due_moment}
+use Rattle.dispatcher.specs.DispatchTables.Lawful.{Lawful}
+use Rattle.dispatcher.proofs.DispatchTables.Duties.{named_law}
+use Rattle.dispatcher.proofs.DispatchTables.Lawfuls.{lawful_last}
 use Rattle.dispatcher.specs.Access.{is_opened, oldest_delivery}
 use Rattle.why_text.specs.Lines.{call_words, seq_word, timeout_words}
 use Rattle.why_text.specs.Words.{channels_that}

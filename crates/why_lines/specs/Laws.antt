@@ -20,7 +20,7 @@ use Rattle.dispatch_history.specs.History.{clock, live}
 use Rattle.dispatch_history.specs.Queue.{args_of, inbound}
 use Rattle.dispatch_history.specs.PointerOf.{AllRise}
 use Rattle.dispatch_history.specs.Step.{scene}
-use Rattle.dispatch_tables.specs.Lawful.{Lawful}
+use Rattle.dispatcher.specs.DispatchTables.Lawful.{Lawful}
 use Rattle.why_text.specs.Laws.{is_given, may_move_focus}
 use Rattle.why_text.specs.Lines.{call_words, down_words}
 use Rattle.why_text.specs.Text.{line, step_text}

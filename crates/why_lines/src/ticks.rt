@@ -3,7 +3,7 @@ ghost use Rattle.std.specs.Prelude.{◌≡◌, ◌++◌, ℕ, List, [], ◌∷�
 ghost use Rattle.window_snapshot.specs.Mask.{is_channel};
 ghost use Rattle.dispatch_history.specs.Effect.{Effect};
 ghost use Rattle.dispatch_history.specs.Reply.{is_due};
-ghost use Rattle.dispatch_tables.specs.Dues.{due_moment};
+ghost use Rattle.dispatcher.specs.DispatchTables.Dues.{due_moment};
 ghost use Rattle.dispatcher.specs.Dispatching.{IsAfter};
 ghost use Rattle.why_text.specs.Lines.{timeout_word, timeout_words};
 ghost use Rattle.why_text.specs.Lost.{lost_word};

@@ -3,14 +3,14 @@ use Rattle.std.specs.Prelude.{◌≡◌, ◌<◌, ◌≤◌, ℕ, Bool, true, Li
 use Rattle.std.proofs.Common.{sym, ◌∙◌, ap, arith}
 use Rattle.input_types.specs.declared.pointer.Pointer.{Pointer}
 use Rattle.input_types.specs.Pointers.{unused as no_pointer}
-use Rattle.slot_accumulator.specs.declared.slots.Row.{Row}
-use Rattle.slot_accumulator.specs.SlotContacts.{row_in}
-use Rattle.pointer_ids.specs.declared.assigned.Held.{Held}
-use Rattle.pointer_ids.specs.Assigned.{unused}
-use Rattle.pointer_ids.specs.Slots.{is_written, pointer_where}
-use Rattle.touch_mapper.specs.Cooking.{Cooking, pixel}
-use Rattle.touch_mapper.specs.Gesture.{placed_all}
-use Rattle.touch_mapper.specs.GestureState.{GestureState}
+use Rattle.device_reader.specs.declared.slot_accumulator.slots.Row.{Row}
+use Rattle.device_reader.specs.SlotAccumulator.SlotContacts.{row_in}
+use Rattle.device_reader.specs.declared.pointer_ids.assigned.Held.{Held}
+use Rattle.device_reader.specs.PointerIds.Assigned.{unused}
+use Rattle.device_reader.specs.PointerIds.Slots.{is_written, pointer_where}
+use Rattle.device_reader.specs.TouchMapper.Cooking.{Cooking, pixel}
+use Rattle.device_reader.specs.TouchMapper.Gesture.{placed_all}
+use Rattle.device_reader.specs.TouchMapper.GestureState.{GestureState}
 use Rattle.device_reader.proofs.Moves.{all_moved, many_placed, moved_next, rests_next}
 use Rattle.device_reader.proofs.touch.move_pointers.Goals.{then-is_written, else-is_written}
 use Rattle.device_reader.proofs.touch.move_pointers.Goals as goal

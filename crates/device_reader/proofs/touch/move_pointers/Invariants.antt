@@ -1,9 +1,9 @@
 use Rattle.std.specs.Prelude.{◌≡◌, ◌<◌, ℕ, List, length, get_or}
-use Rattle.slot_accumulator.specs.SlotContacts.{row_in}
-use Rattle.pointer_ids.specs.declared.assigned.Held.{Held}
-use Rattle.pointer_ids.specs.Assigned.{unused}
-use Rattle.pointer_ids.specs.Slots.{is_written, pointer_where}
-use Rattle.touch_mapper.specs.Gesture.{placed_all}
+use Rattle.device_reader.specs.SlotAccumulator.SlotContacts.{row_in}
+use Rattle.device_reader.specs.declared.pointer_ids.assigned.Held.{Held}
+use Rattle.device_reader.specs.PointerIds.Assigned.{unused}
+use Rattle.device_reader.specs.PointerIds.Slots.{is_written, pointer_where}
+use Rattle.device_reader.specs.TouchMapper.Gesture.{placed_all}
 use Rattle.device_reader.proofs.Moves.{first_moved}
 use Rattle.device_reader.proofs.touch.move_pointers.Given as goal
 

@@ -1,7 +1,7 @@
 use Rattle.std.proofs.Common.{None, refl, sym, ap, subst, ◌∙◌, unwrap_or, le_refl}
 use Rattle.route_split.specs.declared.mark.Mark.TheVariants.{Mute}
-use Rattle.dispatch_round.specs.declared.round.Round.{Round}
-use Rattle.dispatch_round.specs.Rounds.{AreListeners, IsReady}
+use Rattle.dispatcher.specs.declared.dispatch_round.round.Round.{Round}
+use Rattle.dispatcher.specs.DispatchRound.Rounds.{AreListeners, IsReady}
 use Rattle.dispatcher.specs.Carrying.{CarriesOut}
 use Rattle.dispatcher.specs.Tables.{SameButRoom}
 use Rattle.dispatcher.proofs.Oks.{on_err}

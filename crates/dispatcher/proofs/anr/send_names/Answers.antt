@@ -1,5 +1,5 @@
 use Rattle.std.proofs.Common.{sym, ap, ◌∙◌, subst}
-use Rattle.cancel_synthesis.specs.Ends.{keys_cancelled}
+use Rattle.dispatcher.specs.CancelSynthesis.Ends.{keys_cancelled}
 use Rattle.dispatcher.specs.Anr.{Names}
 use Rattle.dispatcher.proofs.Oks.{on_ok}
 use Rattle.dispatcher.proofs.Refocused.{named_is}

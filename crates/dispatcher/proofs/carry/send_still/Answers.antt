@@ -4,7 +4,7 @@ use Rattle.window_snapshot.specs.Mask.{mask_has}
 use Rattle.window_snapshot.proofs.Masks.{mask_has-zero}
 use Rattle.route_split.specs.declared.mark.Mark.{Mark}
 use Rattle.focus_resolver.specs.declared.resolver.Change.{Change}
-use Rattle.dispatch_round.specs.Rounds.{may_take, keyed}
+use Rattle.dispatcher.specs.DispatchRound.Rounds.{may_take, keyed}
 use Rattle.dispatcher.specs.Carrying.{IsSilent}
 use Rattle.dispatcher.specs.Roomy.{AreModest}
 use Rattle.dispatcher.proofs.Oks.{on_ok}

@@ -1,7 +1,7 @@
 use Rattle.std.proofs.Common.{sym, subst}
 use Rattle.dispatch_calls.specs.declared.call.Call.TheVariants.{Open}
 use Rattle.dispatch_calls.specs.declared.reply.Reply.TheVariants.{Full}
-use Rattle.dispatch_channels.specs.Changes.{OpensOrNot}
+use Rattle.dispatcher.specs.DispatchChannels.Changes.{OpensOrNot}
 use Rattle.dispatcher.specs.Tables.{Goes}
 use Rattle.dispatcher.proofs.Opening.{welcome, timely_opened, opens_goes, opens_none}
 use Rattle.dispatcher.proofs.focusing.open.Goals as goal

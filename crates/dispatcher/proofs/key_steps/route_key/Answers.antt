@@ -2,7 +2,7 @@ use Rattle.std.proofs.Common.{◌∷◌, [], refl, sym, ap, ◌∙◌}
 use Rattle.input_types.specs.declared.message.Args.TheVariants.{Key as KeyOfDevice}
 use Rattle.window_snapshot.specs.Mask.{mask_has}
 use Rattle.focus_resolver.specs.Resolver.{target_of}
-use Rattle.key_tables.specs.Held.{key_heard, one_sent}
+use Rattle.dispatcher.specs.KeyTables.Held.{key_heard, one_sent}
 use Rattle.route_split.specs.declared.mark.Mark.TheVariants.{NoOp}
 use Rattle.dispatcher.proofs.Roomy.{modest_one, still_list, fewer}
 use Rattle.dispatcher.proofs.Stepping.{other_steps}

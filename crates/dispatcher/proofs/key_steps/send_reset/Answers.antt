@@ -1,7 +1,7 @@
 use Rattle.std.proofs.Common.{◌≡◌, [], Some, unwrap_or, sym, ap, ◌∙◌, subst}
 use Rattle.input_types.specs.declared.message.Args.TheVariants.{Reset as ResetOf}
 use Rattle.focus_resolver.specs.Resolver.{target_of}
-use Rattle.cancel_synthesis.specs.Ends.{keys_cancelled, of_device}
+use Rattle.dispatcher.specs.CancelSynthesis.Ends.{keys_cancelled, of_device}
 use Rattle.route_split.specs.declared.mark.Mark.TheVariants.{Empty}
 use Rattle.dispatcher.proofs.Stepping.{other_steps}
 use Rattle.dispatcher.specs.Tables.{kept}

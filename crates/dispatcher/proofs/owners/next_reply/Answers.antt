@@ -1,9 +1,9 @@
 use Rattle.std.proofs.Common.{sym, ap, ◌∙◌, not, cond, option_copied}
 use Rattle.window_snapshot.specs.Mask.{mask_has}
-use Rattle.input_channel.specs.State.{next_of}
+use Rattle.dispatcher.specs.InputChannel.State.{next_of}
 use Rattle.dispatch_calls.specs.declared.reply.Reply.TheVariants.{Gone}
 use Rattle.dispatch_history.specs.Reply.{got_reply}
-use Rattle.dispatch_channels.specs.Table.{channel_of}
+use Rattle.dispatcher.specs.DispatchChannels.Table.{channel_of}
 use Rattle.dispatcher.proofs.owners.next_reply.Goals as goal
 
 pub returns-then-not-mask_has : goal.returns-then-not-mask_has

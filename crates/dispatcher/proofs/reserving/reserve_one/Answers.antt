@@ -1,7 +1,7 @@
 -- There is as much room as is needed.
 use Rattle.std.proofs.Common.{length, ap, ◌∙◌}
-use Rattle.dispatch_channels.specs.Table.{but_for_room}
-use Rattle.dispatch_round.proofs.Rooms.{same_but_room}
+use Rattle.dispatcher.specs.DispatchChannels.Table.{but_for_room}
+use Rattle.dispatcher.proofs.DispatchRound.Rooms.{same_but_room}
 use Rattle.dispatcher.proofs.Oks.{on_ok}
 use Rattle.dispatcher.proofs.RoomMade.{more_room, made_room}
 use Rattle.dispatcher.proofs.reserving.reserve_one.Goals as goal

@@ -1,7 +1,7 @@
 -- The moment of the pair that the dispatcher gives.
 use Rattle.std.proofs.Common.{ℕ, Option, option_map, sym, ap, ◌∙◌}
 use Rattle.dispatch_history.specs.Due.{Due}
-use Rattle.dispatch_tables.specs.Dues.{due_pair}
+use Rattle.dispatcher.specs.DispatchTables.Dues.{due_pair}
 use Rattle.live_input.proofs.settling.timeout.Goals as goal
 
 abbrev moment : Option Due → Option ℕ

@@ -5,7 +5,7 @@ use Rattle.dispatch_history.specs.Effects.{effect_of, step}
 use Rattle.dispatch_history.specs.History.{clock}
 use Rattle.dispatch_history.specs.Queue.{args_of, inbound}
 use Rattle.dispatch_history.specs.Reply.{is_due}
-use Rattle.dispatch_tables.specs.Dues.{due_moment}
+use Rattle.dispatcher.specs.DispatchTables.Dues.{due_moment}
 use Rattle.why_text.specs.Lines.{timeout_words}
 use Rattle.why_text.specs.Words.{channels_that}
 use Rattle.dispatcher.proofs.Following.{known_so}

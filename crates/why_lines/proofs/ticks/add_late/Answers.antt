@@ -1,6 +1,6 @@
 use Rattle.std.proofs.Common.{◌≡◌, true, false, cond, [], ◌∷◌, map, sym, ap, ◌∙◌}
 use Rattle.dispatch_history.specs.Reply.{is_due}
-use Rattle.dispatch_tables.specs.Dues.{due_moment}
+use Rattle.dispatcher.specs.DispatchTables.Dues.{due_moment}
 use Rattle.why_text.specs.Lines.{timeout_word, timeout_words}
 use Rattle.why_text.specs.Lost.{lost_word}
 use Rattle.why_lines.specs.Growing.{with_lines}

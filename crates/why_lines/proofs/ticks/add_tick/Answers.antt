@@ -1,6 +1,6 @@
 use Rattle.std.proofs.Common.{◌≡◌, add-one, arith}
 use Rattle.dispatch_history.specs.Reply.{is_due}
-use Rattle.dispatch_tables.specs.Dues.{due_moment}
+use Rattle.dispatcher.specs.DispatchTables.Dues.{due_moment}
 use Rattle.why_text.specs.Lines.{timeout_words}
 use Rattle.why_lines.proofs.Growing.{no_line}
 use Rattle.why_lines.proofs.Ticking.{all_channels, one_channel}

@@ -1,7 +1,7 @@
 use Rattle.std.proofs.Common.{◌≡◌, ℕ, true, List}
 use Rattle.dispatch_history.specs.Effect.{Effect}
 use Rattle.dispatch_history.specs.Reply.{is_due}
-use Rattle.dispatch_tables.specs.Dues.{due_moment}
+use Rattle.dispatcher.specs.DispatchTables.Dues.{due_moment}
 use Rattle.dispatcher.specs.Dispatching.{IsAfter}
 use Rattle.why_text.specs.Lines.{timeout_words}
 use Rattle.why_lines.specs.Losing.{LosesAll}

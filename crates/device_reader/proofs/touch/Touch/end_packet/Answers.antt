@@ -3,16 +3,16 @@ use Rattle.std.specs.Prelude.{◌≡◌, ℕ, Bool, List, ◌∷◌, ◌++◌, m
 use Rattle.std.proofs.Common.{sym, ◌∙◌, ap, subst}
 use Rattle.raw_events.specs.declared.event.RawEvent.{RawEvent}
 use Rattle.input_types.specs.declared.message.Args.{Args}
-use Rattle.slot_accumulator.specs.declared.contacts.Contact.{Contact}
-use Rattle.slot_accumulator.specs.declared.slots.Row.{Row}
-use Rattle.slot_accumulator.specs.Table.{Table}
-use Rattle.slot_accumulator.specs.SlotContacts.{contacts_at, contacts_in, row_in}
-use Rattle.pointer_ids.specs.declared.assigned.Held.{Held}
-use Rattle.pointer_ids.specs.PointerIds.{named_after, assigned}
-use Rattle.pointer_ids.specs.Slots.{slot_of, is_written, contact_where, pointer_where, last_packet}
-use Rattle.touch_mapper.specs.Cooking.{Cooking}
-use Rattle.touch_mapper.specs.Gesture.{as_args, move_of, placed_all}
-use Rattle.touch_mapper.specs.GestureState.{GestureState}
+use Rattle.device_reader.specs.declared.slot_accumulator.contacts.Contact.{Contact}
+use Rattle.device_reader.specs.declared.slot_accumulator.slots.Row.{Row}
+use Rattle.device_reader.specs.SlotAccumulator.Table.{Table}
+use Rattle.device_reader.specs.SlotAccumulator.SlotContacts.{contacts_at, contacts_in, row_in}
+use Rattle.device_reader.specs.declared.pointer_ids.assigned.Held.{Held}
+use Rattle.device_reader.specs.PointerIds.PointerIds.{named_after, assigned}
+use Rattle.device_reader.specs.PointerIds.Slots.{slot_of, is_written, contact_where, pointer_where, last_packet}
+use Rattle.device_reader.specs.TouchMapper.Cooking.{Cooking}
+use Rattle.device_reader.specs.TouchMapper.Gesture.{as_args, move_of, placed_all}
+use Rattle.device_reader.specs.TouchMapper.GestureState.{GestureState}
 use Rattle.device_reader.specs.Packets.{packets}
 use Rattle.device_reader.specs.Cooked.{TouchPlan, TouchStandsFor}
 use Rattle.device_reader.proofs.Still.{IsStill, is_still, pointers_now, still_args, packet_still}

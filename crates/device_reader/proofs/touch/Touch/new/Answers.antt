@@ -1,10 +1,10 @@
 -- Without events no pointer is down.
 use Rattle.std.specs.Prelude.{false}
 use Rattle.std.proofs.Common.{sym, ◌∙◌, ap, subst, arith}
-use Rattle.pointer_ids.specs.declared.named.Named.{Named}
-use Rattle.pointer_ids.specs.PointerIds.{assigned}
-use Rattle.pointer_ids.specs.Slots.{SameFingers}
-use Rattle.pointer_ids.proofs.SameSlots.{same_refl}
+use Rattle.device_reader.specs.declared.pointer_ids.named.Named.{Named}
+use Rattle.device_reader.specs.PointerIds.PointerIds.{assigned}
+use Rattle.device_reader.specs.PointerIds.Slots.{SameFingers}
+use Rattle.device_reader.proofs.PointerIds.SameSlots.{same_refl}
 use Rattle.device_reader.proofs.touch.Touch.new.Goals as goal
 
 pub returns : goal.returns

@@ -1,11 +1,11 @@
 -- The fingers are named, and the packet adds its motions.
 use Rattle.std.specs.Prelude.{◌≡◌, ℕ, false, List, ◌∷◌}
 use Rattle.std.proofs.Common.{refl, sym, ◌∙◌, ap, subst}
-use Rattle.slot_accumulator.specs.declared.contacts.Contact.{Contact}
-use Rattle.slot_accumulator.specs.SlotContacts.{contacts_at}
-use Rattle.pointer_ids.specs.declared.named.Named.{Named}
-use Rattle.pointer_ids.specs.PointerIds.{named_after, assigned}
-use Rattle.pointer_ids.proofs.SameSlots.{same_named, same_cancelled}
+use Rattle.device_reader.specs.declared.slot_accumulator.contacts.Contact.{Contact}
+use Rattle.device_reader.specs.SlotAccumulator.SlotContacts.{contacts_at}
+use Rattle.device_reader.specs.declared.pointer_ids.named.Named.{Named}
+use Rattle.device_reader.specs.PointerIds.PointerIds.{named_after, assigned}
+use Rattle.device_reader.proofs.PointerIds.SameSlots.{same_named, same_cancelled}
 use Rattle.device_reader.specs.Packets.{packets}
 use Rattle.device_reader.specs.Cooked.{TouchStandsFor}
 use Rattle.device_reader.proofs.Packet.{touch_step, packet_named}

@@ -2,11 +2,11 @@
 use Rattle.std.specs.Prelude.{◌≡◌, ℕ, true, false, List, map}
 use Rattle.std.proofs.Common.{sym, ◌∙◌, ap}
 use Rattle.raw_events.specs.Packets.{is_report}
-use Rattle.slot_accumulator.specs.declared.contacts.Contact.{Contact}
-use Rattle.slot_accumulator.specs.declared.slots.Row.{Row}
-use Rattle.slot_accumulator.specs.Contacts.{put_at}
-use Rattle.slot_accumulator.specs.SlotContacts.{row_in}
-use Rattle.pointer_ids.specs.Slots.{is_written, contact_where, last_packet}
+use Rattle.device_reader.specs.declared.slot_accumulator.contacts.Contact.{Contact}
+use Rattle.device_reader.specs.declared.slot_accumulator.slots.Row.{Row}
+use Rattle.device_reader.specs.SlotAccumulator.Contacts.{put_at}
+use Rattle.device_reader.specs.SlotAccumulator.SlotContacts.{row_in}
+use Rattle.device_reader.specs.PointerIds.Slots.{is_written, contact_where, last_packet}
 use Rattle.device_reader.specs.Packets.{packets}
 use Rattle.device_reader.proofs.Still.{no_packet_stands, one_written}
 use Rattle.device_reader.proofs.touch.Touch.take.Goals as goal

@@ -1,5 +1,5 @@
 use Rattle.std.proofs.Common.{refl, sym, subst}
-use Rattle.anr_tracker.specs.Due.{NoneBelow}
+use Rattle.dispatcher.specs.AnrTracker.Due.{NoneBelow}
 use Rattle.dispatcher.specs.Dispatching.{IsAfter}
 use Rattle.dispatcher.proofs.NotBefore.{not_before}
 use Rattle.dispatcher.proofs.ReadLaws.{reads_channels}

@@ -1,7 +1,7 @@
 use Rattle.std.proofs.Common.{◌≡◌, ◌≤◌, false, sym, ap, ◌∙◌, subst, arith}
 use Rattle.window_snapshot.specs.Mask.{mask_has}
-use Rattle.input_channel.specs.State.{all_released}
-use Rattle.dispatch_channels.specs.Table.{channel_of, opened}
+use Rattle.dispatcher.specs.InputChannel.State.{all_released}
+use Rattle.dispatcher.specs.DispatchChannels.Table.{channel_of, opened}
 use Rattle.dispatch_history.specs.Effect.{past_of}
 use Rattle.dispatch_history.specs.History.{live}
 use Rattle.dispatcher.specs.Access.{gone, anrs_released}

@@ -1,6 +1,6 @@
 use Rattle.std.proofs.Common.{sym, ap, ◌∙◌, subst, refl, arith}
-use Rattle.input_channel.specs.State.{each_released}
-use Rattle.dispatch_channels.specs.Table.{channel_of}
+use Rattle.dispatcher.specs.InputChannel.State.{each_released}
+use Rattle.dispatcher.specs.DispatchChannels.Table.{channel_of}
 use Rattle.dispatcher.specs.Access.{gone, anrs_released}
 use Rattle.dispatcher.specs.Dispatching.{IsAfter}
 use Rattle.dispatcher.proofs.RoomMade.{release_room}

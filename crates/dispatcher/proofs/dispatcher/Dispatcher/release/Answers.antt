@@ -1,6 +1,6 @@
 use Rattle.std.proofs.Common.{◌≤◌, max, refl, sym, ap, ◌∙◌, subst, arith}
-use Rattle.input_channel.specs.State.{release_of}
-use Rattle.dispatch_channels.specs.Table.{channel_of, opened}
+use Rattle.dispatcher.specs.InputChannel.State.{release_of}
+use Rattle.dispatcher.specs.DispatchChannels.Table.{channel_of, opened}
 use Rattle.dispatch_history.specs.Effect.{past_of}
 use Rattle.dispatch_history.specs.History.{received}
 use Rattle.dispatcher.specs.Access.{gone, anrs_released}

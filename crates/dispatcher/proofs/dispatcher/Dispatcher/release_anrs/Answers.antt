@@ -1,5 +1,5 @@
 use Rattle.std.proofs.Common.{sym, ap, ◌∙◌, subst}
-use Rattle.dispatch_channels.specs.Table.{Table, channel_of, but_for_room}
+use Rattle.dispatcher.specs.DispatchChannels.Table.{Table, channel_of, but_for_room}
 use Rattle.dispatcher.specs.Access.{gone}
 use Rattle.dispatcher.specs.Dispatching.{IsAfter, StandsFor}
 use Rattle.dispatcher.specs.Roomy.{IsRoomy}

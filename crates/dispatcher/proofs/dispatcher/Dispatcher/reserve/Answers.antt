@@ -1,6 +1,6 @@
 -- With more room it stands for the same history.
 use Rattle.std.proofs.Common.{sym, ap, subst}
-use Rattle.dispatch_channels.specs.Table.{channel_of}
+use Rattle.dispatcher.specs.DispatchChannels.Table.{channel_of}
 use Rattle.dispatcher.specs.Dispatching.{IsAfter, StandsFor}
 use Rattle.dispatcher.proofs.Standing.{after_of, stands_same}
 use Rattle.dispatcher.proofs.Applying.{seen, reserved_stands}

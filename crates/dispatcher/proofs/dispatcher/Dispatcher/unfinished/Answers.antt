@@ -1,5 +1,5 @@
 use Rattle.std.proofs.Common.{refl, sym, ◌∙◌, subst, arith}
-use Rattle.dispatch_tables.proofs.Ables.{live_number}
+use Rattle.dispatcher.proofs.DispatchTables.Ables.{live_number}
 use Rattle.dispatcher.specs.Dispatching.{IsAfter}
 use Rattle.dispatcher.proofs.ReadLaws.{reads_channels}
 use Rattle.dispatcher.proofs.Rooms.{stands_raw}

@@ -1,6 +1,6 @@
 use Rattle.std.proofs.Common.{◌-◌, ap, ◌∙◌}
 use Rattle.window_snapshot.specs.Origins.{corner}
-use Rattle.dispatch_channels.specs.Table.{opened}
+use Rattle.dispatcher.specs.DispatchChannels.Table.{opened}
 use Rattle.dispatcher.specs.Shown.{origin_at}
 use Rattle.dispatcher.proofs.Starting.{knows_first}
 use Rattle.dispatcher.proofs.Showing.{same_default}

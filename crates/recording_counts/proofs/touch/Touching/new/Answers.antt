@@ -1,6 +1,6 @@
 -- Without events no contact is there.
 use Rattle.std.proofs.Common.{refl, ap}
-use Rattle.pointer_ids.specs.PointerIds.{assigned}
+use Rattle.device_reader.specs.PointerIds.PointerIds.{assigned}
 use Rattle.recording_counts.proofs.touch.Touching.new.Goals as goal
 
 pub returns : goal.returns

@@ -1,5 +1,0 @@
-use Rattle.cancel_synthesis.proofs.PointerEnds.{nothing_in}
-use Rattle.cancel_synthesis.proofs.state.InputState.new.Goals as goal
-
-pub returns-clause-pointers : goal.returns-clause-pointers
-returns-clause-pointers c d = nothing_in c.empty.result c.empty.ensures 8 d

@@ -1,5 +1,0 @@
-use Rattle.std.proofs.Common.{None}
-use Rattle.dispatch_round.proofs.send.change_and_send.Goals as goal
-
-pub returns-in_default-clause-outgoing : goal.returns-in_default-clause-outgoing
-returns-in_default-clause-outgoing c = record { losses = None; losses_are = tt; hears = c.send_each.ensures }

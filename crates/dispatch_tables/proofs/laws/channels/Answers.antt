@@ -1,6 +1,0 @@
-use Rattle.dispatch_tables.proofs.Kept.{numbered_law}
-use Rattle.dispatch_tables.proofs.Keeping.{kept_facts, kept_step, kept_ready, kept_unopened}
-use Rattle.dispatch_tables.proofs.laws.channels.Goals as goal
-
-pub returns : goal.returns
-returns c = record { facts = kept_facts; numbers = numbered_law; step = kept_step; ready = kept_ready; unopened = kept_unopened }

@@ -1,0 +1,81 @@
+//! What is asked of the channels.
+ghost use Rattle.std.specs.Prelude.{◌≡◌, true};
+ghost use Rattle.window_snapshot.specs.Mask.{is_channel};
+ghost use Rattle.dispatcher.specs.AnrTracker.Due.{IsFirst};
+ghost use Rattle.dispatcher.specs.InputChannel.State.{oldest_of};
+ghost use Rattle.dispatcher.specs.DispatchChannels.Table.{IsOpened, channel_of, input_of, due_moment};
+ghost use Rattle.dispatcher.specs.DispatchChannels.Changes.{counts_in};
+
+use crate::cancel_synthesis::InputState;
+use crate::dispatch_channels::channels::Channels;
+use dispatch_calls::{Anr, Counts};
+use input_types::{Message, Moment};
+use window_snapshot::mask_has;
+
+impl Channels {
+    /// How far a channel has come; None exactly where none was opened with this number.
+    pub fn counts(&self, channel: u32) -> Option<Counts>
+        ensures { result ≡ counts_in self.now channel }
+    {
+        if channel < 1 || self.opened() < channel {
+            return None;
+        }
+        let kept = &self.channels[channel as usize - 1];
+        Some(Counts {
+            sent: kept.sent(),
+            received: kept.received(),
+            finished: kept.finished(),
+            published: kept.published(),
+            live: mask_has(self.live, channel),
+        })
+    }
+
+    /// When a channel is due to be named: its limit after the delivery of its oldest message that is published and not
+    /// finished; None exactly where it is not able, or has no such message.
+    pub fn due(&self, channel: u32) -> Option<u64>
+        requires { is_channel channel ≡ true }
+        ensures { result ≡ due_moment self.now channel }
+    {
+        self.tracker.due(channel)
+    }
+
+    /// The least moment at which a channel is due to be named, and the channel, the least one where several are due
+    /// at it; None exactly where no channel is due.
+    pub fn first_due(&self) -> Option<(u64, u32)>
+        ensures { IsFirst (due_moment self.now) result }
+    {
+        self.tracker.first_due()
+    }
+
+    /// The number and the delivery of the oldest message of a channel that is published and not finished; None exactly
+    /// where every published message is finished.
+    pub fn oldest(&self, channel: u32) -> Option<(u64, Moment)>
+        requires { IsOpened self.now channel }
+        ensures { result ≡ oldest_of (channel_of self.now channel) }
+    {
+        self.channels[channel as usize - 1].oldest_unfinished()
+    }
+
+    /// The messages of a channel, but for those that were let go.
+    pub fn messages(&self, channel: u32) -> &[Message]
+        requires { IsOpened self.now channel }
+        ensures { result.now ≡ (channel_of self.now channel).messages }
+    {
+        self.channels[channel as usize - 1].messages()
+    }
+
+    /// What the window of a channel was sent and is not told the end of, from which cancels are made.
+    pub fn input(&self, channel: u32) -> &InputState
+        requires { IsOpened self.now channel }
+        ensures { result.now ≡ input_of self.now channel }
+    {
+        &self.inputs[channel as usize - 1]
+    }
+
+    /// The namings so far but for those that were let go, the first one first.
+    pub fn anrs(&self) -> &[Anr]
+        ensures { result.now ≡ self.now.anrs.left }
+    {
+        self.anrs.left()
+    }
+}

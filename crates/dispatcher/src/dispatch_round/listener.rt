@@ -1,0 +1,12 @@
+//! Who is sent.
+use crate::window_covers::Covers;
+use input_types::{Moment, Pixel};
+
+/// A window that is sent something at a clock, where it has its origin, and what lies over the windows.
+#[derive(Clone, Copy)]
+pub(crate) struct Listener<'a> {
+    pub(crate) window: u32,
+    pub(crate) origin: Pixel,
+    pub(crate) clock: Moment,
+    pub(crate) covers: &'a Covers,
+}

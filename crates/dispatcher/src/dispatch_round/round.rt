@@ -1,0 +1,26 @@
+//! What a step tells.
+use crate::window_covers::Gift;
+use input_types::{KeyMsg, Motion};
+use route_split::Mark;
+
+/// What one step of the dispatcher tells windows. A window goes by the number of its channel, and masks are sets of
+/// channels.
+#[derive(Clone, Copy)]
+pub struct Round<'a> {
+    /// What it gives to windows and takes from them.
+    pub mark: Mark,
+    /// The motion that it dispatches; None, where it dispatches none.
+    pub motion: Option<&'a Motion>,
+    /// What lies over the windows that it gives a pointer; None, where it gives none.
+    pub gift: Option<Gift>,
+    /// The windows that are told that a touch is outside of them.
+    pub watchers: u64,
+    /// The window that is told of keys.
+    pub target: u32,
+    /// What it is told of them, in this order.
+    pub keys: &'a [KeyMsg],
+    /// The windows that lose the focus.
+    pub lost: u64,
+    /// The windows that gain it.
+    pub gained: u64,
+}

@@ -1,0 +1,41 @@
+//! The args that devices hand in, before the dispatcher takes them: which of them may come, by what is down on their
+//! device, and those that wait, in the order in which they came.
+//!
+//! Of each of eight devices [`DevicesDown`] keeps what is down: pointers by their ids, and keys by their scan codes.
+//! Pointer 0 is down on device 1, and its volume up key, scan code 115. The next args are planned first, and taken
+//! then:
+//!
+//! ```text
+//! POINTER_DOWN:1 0, 1    Pointers {0, 1}
+//! key 115 down           refused: pointers {0} are down, and the key is
+//! DOWN 0                 refused: pointers {0} are down
+//! reset                  Nothing is down
+//! ```
+//!
+//! [`DevicesDown::plan`] answers what args change, or what is down where they may not come by the rule of devices, and
+//! changes nothing. [`DevicesDown::apply`] makes the change. Neither takes memory: of each device a bit is kept for
+//! each scan code, from the start.
+//!
+//! Args that came wait in an [`Inbound`]. A finger goes down, moves and goes up before the dispatcher looks:
+//!
+//! ```text
+//! reserve 2              room for 2
+//! put DOWN               1 waits, room for 1
+//! put MOVE               2 wait
+//! first                  DOWN, which stays
+//! pop                    DOWN
+//! ```
+//!
+//! Room is reserved first and used then, so that whoever changes several things at once can make sure of all memory
+//! before the first change. The places of what was taken serve again: a queue that never holds more than it once did
+//! takes no further memory.
+mod change;
+mod device;
+mod devices;
+mod keys;
+pub mod laws;
+mod queue;
+
+pub use change::{Becomes, Change, Inconsistent};
+pub use devices::{DevicesDown, device_of};
+pub use queue::Inbound;

@@ -1,0 +1,69 @@
+//! The keys that are down on one device.
+ghost use Rattle.std.specs.Prelude.{◌≡◌, ℕ, false, replicate, IfOk};
+ghost use Rattle.input_types.specs.DeviceRule.{with_key};
+ghost use Rattle.dispatcher.specs.InboundArgs.Keys.{has_key};
+
+use bits32::Bits32;
+use std::alloc::{AllocError, Global};
+use std::marker::Model;
+
+/// A bit for each scan code. It has all of its memory from the start, so no key needs any.
+#[derive(Drop)]
+pub(crate) struct KeysDown {
+    /// The codes 32 k to 32 k + 31 stand in the set with the place k.
+    sets: Vec<Bits32>,
+}
+
+impl Model for KeysDown {
+    ghost use Rattle.std.specs.Prelude.{◌≡◌, ℕ, List, length};
+
+    ghost Value = { List ℕ };
+
+    ghost view = { λ k. k.sets.items };
+
+    ghost invariant = { λ k. length k.sets.items ≡ 2048 };
+}
+
+impl KeysDown {
+    /// No key is down.
+    pub(crate) fn new(alloc: Global) -> Result<KeysDown, AllocError>
+        ensures { IfOk result (λ k. (scan : ℕ) → has_key k scan ≡ false) }
+    {
+        let sets = empty_sets(alloc, 2048)?;
+        Ok(KeysDown { sets })
+    }
+
+    /// Whether the key with a scan code is down.
+    pub(crate) fn has(&self, scan: u16) -> bool
+        ensures { result ≡ has_key self.now scan }
+    {
+        self.sets[usize::from(scan / 32)].has((scan % 32) as u8)
+    }
+
+    /// The key with a scan code is down from now on, or is up.
+    pub(crate) fn set(&mut self, scan: u16, down: bool)
+        ensures { (s : ℕ) → has_key self.new s ≡ with_key (has_key self.old) scan down s }
+    {
+        let set = &mut self.sets[usize::from(scan / 32)];
+        let code = (scan % 32) as u8;
+        if down {
+            set.mark(code);
+        } else {
+            set.clear(code);
+        }
+    }
+
+    /// No key is down from now on.
+    pub(crate) fn clear(&mut self)
+        ensures { (scan : ℕ) → has_key self.new scan ≡ false }
+    {
+        self.sets.fill(Bits32::empty());
+    }
+}
+
+/// So many empty sets.
+fn empty_sets(alloc: Global, count: usize) -> Result<Vec<Bits32>, AllocError>
+    ensures { IfOk result (λ v. v.items ≡ replicate count 0) }
+{
+    vec![in alloc; Bits32::empty(); count]
+}

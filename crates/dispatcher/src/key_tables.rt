@@ -1,0 +1,27 @@
+//! What a dispatcher keeps of the focus, of keys and of repeats in place of a history, and how each step changes it.
+//!
+//! Window 1 is the key target, and volume up goes down at 1,000,000 microseconds, stays down, and is repeated twice.
+//! The dispatcher keeps the key with its last message, `down repeat 2`, and for the next repeat that message with its
+//! clock, 1,550,000. The next step sends window 1
+//!
+//! ```text
+//! a repeat that is due               down repeat 3
+//! the key goes up                    up
+//! a reset of its device              up canceled
+//! the focus goes to window 2         up canceled, and then that it lost the focus
+//! a tick names window 1              up canceled
+//! the windows are shown again        nothing
+//! ```
+//!
+//! and no other window any key message, whatever the step. After a repeat, it is kept with its clock; after an up,
+//! nothing is.
+//!
+//! [`laws`] says this for each step of each legal history: what is kept stands for the effects of the history
+//! (specs/), and each step keeps it so. The functions here are the code that the laws are about; the rest of it is in
+//! the crates of the focus, of repeats and of cancels.
+mod focus;
+mod key_sent;
+pub mod laws;
+
+pub use focus::{focus_change, focusable};
+pub use key_sent::{key_heard, remember};

@@ -1,7 +1,0 @@
-use Rattle.std.proofs.Common.{◌≡◌, length}
-use Rattle.inbound.proofs.Tables.{Blank}
-use Rattle.inbound.proofs.devices.untouched.Given as goal
-
--- so many devices, and nothing is down on any
-abbrev pub invariant-devices : goal.invariant-devices
-invariant-devices l = (length l.devices.items ≡ l.counter) × Blank l.devices.items

@@ -1,8 +1,0 @@
--- All sets are empty.
-use Rattle.std.proofs.Common.{ap, ◌∙◌}
-use Rattle.inbound.specs.Keys.{has_key}
-use Rattle.inbound.proofs.KeySets.{none_down}
-use Rattle.inbound.proofs.keys.KeysDown.new.Goals as goal
-
-pub returns : goal.returns
-returns c scan = ap (λ sets. has_key sets scan) c.in_ok-sets.ensures ∙ none_down 2048 scan

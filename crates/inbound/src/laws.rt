@@ -1,9 +1,0 @@
-//! What is proved of what is kept. Each function has laws as its clauses, and does nothing.
-ghost use Rattle.inbound.specs.Laws.{AcceptLaw, DownLaw};
-
-/// What is kept stands for all args that were accepted, the ones that are taken next too, and says what is down on each
-/// device.
-pub fn accepting()
-    ensures accept { AcceptLaw }
-    ensures down { DownLaw }
-{}

@@ -1,7 +1,0 @@
-use Rattle.std.proofs.Common.{◌≡◌, take}
-use Rattle.input_channel.specs.Moves.{counted_from}
-use Rattle.input_channel.proofs.moves.list_from.Given as goal
-
--- the pointers so far, counted from the origin
-abbrev pub invariant-loop-pointer : goal.invariant-loop-pointer
-invariant-loop-pointer l = l.listed ≡ counted_from l.origin (take l.pointer-index l.pointers)

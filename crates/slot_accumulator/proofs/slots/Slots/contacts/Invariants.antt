@@ -1,8 +1,0 @@
-use Rattle.std.proofs.Common.{◌≡◌}
-use Rattle.slot_accumulator.specs.Table.{is_kept}
-use Rattle.slot_accumulator.specs.SlotContacts.{contacts_of, row_in}
-use Rattle.slot_accumulator.proofs.slots.Slots.contacts.Given as goal
-
--- the contacts of the slots so far
-abbrev pub invariant-loop-slot : goal.invariant-loop-slot
-invariant-loop-slot l = l.contacts ≡ contacts_of (row_in l.self-inside.rows) (λ t. is_kept l.self-inside.palms t) l.slot

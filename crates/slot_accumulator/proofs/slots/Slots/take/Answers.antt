@@ -1,6 +1,0 @@
--- A SYN_REPORT ends a packet, and other events are written.
-use Rattle.std.proofs.Common.{sym, ◌∙◌}
-use Rattle.slot_accumulator.proofs.slots.Slots.take.Goals as goal
-
-pub returns-then-is_report-clause-state : goal.returns-then-is_report-clause-state
-returns-then-is_report-clause-state c = λ past h. c.end_packet.ensures.state past c.args.event (sym c.is_report.ensures ∙ c.if-is_report.true) h

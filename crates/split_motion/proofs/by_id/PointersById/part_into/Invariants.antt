@@ -1,8 +1,0 @@
-use Rattle.split_motion.proofs.Walk.{Listed}
-use Rattle.split_motion.proofs.by_id.PointersById.part_into.Given as goal
-
-abbrev pub invariant-loop-rest : goal.invariant-loop-rest
-invariant-loop-rest l = Listed l.pointers l.fn.set l.rest l.listed
-
-abbrev pub decreases-loop-rest : goal.decreases-loop-rest
-decreases-loop-rest l = l.rest

@@ -1,8 +1,0 @@
-use Rattle.std.proofs.Common.{arith}
-use Rattle.window_covers.proofs.Masks.{mask-set}
-use Rattle.window_covers.proofs.covers.put.Goals as goal
-
-pub returns : goal.returns
-returns c d =
-    mask-set c.args.masks.now c.args.device c.index_of-place.result c.args.mask d (omega arith) c.index_of-place.ensures.device
-    c.index_of-place.ensures.value
