@@ -98,7 +98,7 @@ impl DeviceTable {
     }
 
     /// Takes an event by the reader of its device, and adds what it gives to `args`. An event of a device that is not
-    /// plugged in adds nothing. After want of memory the readers and `args` are as before.
+    /// plugged in adds nothing. If memory runs out, the readers and `args` are as before.
     pub fn take_into(&mut self, event: RawEvent, args: &mut Vec<Args>) -> Result<(), AllocError>
         ensures ok { (plan : DevicePlan) (past : List Event) → StandsAt plan past event.device self.old
             → OnOk result (args.new.items ≡ args.old.items ++ args_of plan past event) }

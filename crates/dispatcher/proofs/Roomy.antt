@@ -201,7 +201,7 @@ listens_to (Some u) live t e = by_test (mask_has live u) e
     by_test true same = same
     by_test false same = absurd (cc same)
 
--- want of memory leaves the room
+-- running out of memory leaves the room
 pub same_room : (n : ℕ) (old new : Routing) → SameButRoom old new → HasPumpRoom n old → HasPumpRoom n new
 same_room n old new same roomy c lives =
     let live : new.channels.live ≡ old.channels.live = ap (λ (r : Routing). r.channels.live) same.0 in

@@ -144,7 +144,7 @@ pub(crate) fn send_key(
     send_lightly(routing, &round, place, clock)
 }
 
-/// The key target is sent keys, and windows are told that they lost the focus or have it now, while pointers change
+/// The key target is sent keys, and windows are sent changes of the focus, while pointers change
 /// hands by a mark.
 pub(crate) fn send_still(
     routing: &mut Routing,

@@ -11,14 +11,15 @@
 //!            1 and 2 are published
 //! ```
 //!
-//! A step is sent in two parts, so that want of memory changes nothing but the room that channels have. [`make_room`]
-//! takes all memory that the step can need; it looks at the windows that may be sent something, and at no others.
-//! [`send_all`] takes none and cannot fail: it changes the tables of touches by the mark of the step, and tells these
+//! A step is sent in two parts, so that running out of memory changes nothing but the room that channels have.
+//! [`make_room`] takes all memory that the step can need; it looks at the windows that may be sent something, and at no
+//! others.
+//! [`send_all`] takes none and cannot fail: it changes the tables of touches by the mark of the step, and sends these
 //! windows. A window is sent its motions first, device by device, then keys, and then whether it lost the focus or has
 //! it now. What it was told that it holds, and holds no more, is cancelled at the last places that it was sent. Where a
 //! window pilfers, that is what the pilfer says that each window lost.
 //!
-//! A [`Round`] says what a step tells. What is proved holds for every scene of the rules that the tables stand for
+//! A [`Round`] says what a step sends. What is proved holds for every scene of the rules that the tables stand for
 //! (`IsRound` of specs/Rounds); of the steps before nothing is known here.
 mod concern;
 mod devices;

@@ -44,7 +44,7 @@ pub(crate) fn open(
     }
 }
 
-/// The window of a new channel is told that it has the focus, where it has it at once. Takes no memory.
+/// Sends the window of a new channel the focus, if it has it at once. Takes no memory.
 fn welcome(routing: &mut Routing, number: u32, place: u64, clock: Moment)
     requires timely { IsTimely clock routing.old.channels }
     requires room { IsWelcome number routing.old.channels }
@@ -112,7 +112,7 @@ pub(crate) fn request(
     Ok(Reply::Done)
 }
 
-/// The key target is told that its keys are cancelled, where it is not the key target any more, and windows are sent
+/// Sends the key target the cancels of its keys, where it is not the key target any more, and windows are sent
 /// that they lost the focus or have it now.
 fn refocus(
     routing: &mut Routing,

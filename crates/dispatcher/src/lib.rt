@@ -34,8 +34,8 @@
 //! (specs/Telling). What is read of the tables is what the history says (specs/ReadLaws).
 //!
 //! Each call is carried out in the same order. First all is found that it changes, then room is made for all that
-//! windows are sent, and then only calls are made that cannot fail. So want of memory changes nothing that can be
-//! seen.
+//! windows are sent, and then only calls are made that cannot fail. So running out of memory changes nothing that can
+//! be seen.
 #![tactic(auto)]
 
 mod anr;

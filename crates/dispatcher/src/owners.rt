@@ -59,7 +59,7 @@ pub(crate) fn finish(routing: &mut Routing, channel: u32, seq: u64, clock: Momen
     }
 }
 
-/// A channel is closed for good. Nobody is told of it: the window is not live any more, and no other one loses or
+/// A channel is closed for good. Nobody is sent anything: the window is not live any more, and no other one loses or
 /// gains anything.
 pub(crate) fn remove(routing: &mut Routing, channel: u32, place: u64) -> Outcome
     ensures { (clock : ℕ)

@@ -12,7 +12,8 @@ use pointers_down::{is_same, listed, without};
 /// Why a message may not come after those before it: the first reason of its kind that holds.
 #[derive(Clone, Copy, Debug, PartialEq, Eq)]
 pub enum Reason {
-    /// A canceled motion other than a `PointerUp`, or an `Outside` with a mark.
+    /// Flags that a motion cannot have: canceled on another action than `PointerUp`, a mark on an `Outside`, or a flag
+    /// that no rule names.
     Flags,
     /// A `Down` while pointers are down, or a `PointerDown` of a pointer that is down.
     AlreadyDown,

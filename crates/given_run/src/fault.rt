@@ -11,7 +11,7 @@ pub enum Fault {
     /// before it.
     NoStep { before: usize },
 
-    /// Want of memory.
+    /// Memory ran out.
     Memory,
 }
 

@@ -21,7 +21,7 @@ pub enum JudgeError {
     /// No section has a message.
     Nothing,
 
-    /// Want of memory.
+    /// Memory ran out.
     Memory,
 }
 

@@ -14,7 +14,7 @@ pub record IsKept (kept : List ℕ) (capacity : ℕ) : Type 0 where
   pub unended : line_len kept ≡ length kept
   pub room : 4096 ≤ capacity
 
--- want of memory is no refusal of a line
+-- running out of memory is no refusal of a line
 abbrev pub IsCause : Option LineError → Type 0
 IsCause (Some errors.Memory) = ⊥
 IsCause (Some error) = Unit {0}
@@ -36,25 +36,25 @@ pub record TakesLine (devices : Known) (bytes : List ℕ) (line : Line) (after :
   pub says : line ≡ judged devices text
   pub shorter : length after < length bytes
 
--- A line was sent: what the lines behind it tell is still to come. After want of memory nothing was added.
+-- A line was sent: what the lines behind it tell is still to come. If memory runs out, nothing was added.
 abbrev pub TellsLine : Result ℕ LineError → Line → ℕ → List RawEvent → List RawEvent → Type 0
 TellsLine (Ok next) line n before after = (next ≡ next_number n) × ((told : Told) → behind after told ≡ behind before (with_told line n told))
 TellsLine (Err errors.Memory) line n before after = after ≡ before
 TellsLine (Err error) line n before after = (told : Told) → record { events = after; next = Err error } ≡ behind before (with_told line n told)
 
--- Lines were sent up to where the next one begins. After want of memory some events may have been added.
+-- Lines were sent up to where the next one begins. If memory runs out, some events may have been added.
 abbrev pub TellsLines : Result ℕ LineError → Told → List RawEvent → List RawEvent → Type 0
 TellsLines (Err errors.Memory) told before after = take (length before) after ≡ before
 TellsLines next told before after = record { events = after; next = next } ≡ behind before told
 
--- Lines in front were sent, and these bytes stand behind them. After want of memory some events may have been added.
+-- Lines in front were sent, and these bytes stand behind them. If memory runs out, some events may have been added.
 abbrev pub TellsFront : Known → Result (ℕ × List ℕ) LineError → ℕ → List ℕ → List RawEvent → List RawEvent → Type 0
 TellsFront devices (Ok read) n bytes before after =
     (behind after (tell devices read.0 (parts read.1).ended) ≡ behind before (tell devices n (parts bytes).ended)) × ((parts read.1).begun ≡ (parts bytes).begun)
     × (take (length before) after ≡ before) × (length read.1 ≤ length bytes)
 TellsFront devices (Err error) n bytes before after = TellsLines (Err error) (tell devices n (parts bytes).ended) before after
 
--- A piece was read up to where a line goes on. After want of memory some events and some bytes may have been added.
+-- A piece was read up to where a line goes on. If memory runs out, some events and some bytes may have been added.
 abbrev pub ReadsPiece : Result ℕ LineError → Step → List RawEvent → List RawEvent → List ℕ → List ℕ → Type 0
 ReadsPiece (Ok next) step before after kept keeps = (after ≡ before ++ step.events) × (step.place ≡ Ok (next, keeps))
 ReadsPiece (Err errors.Memory) step before after kept keeps = (take (length before) after ≡ before) × (take (length kept) keeps ≡ kept)

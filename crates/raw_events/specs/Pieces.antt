@@ -95,7 +95,7 @@ abbrev pub answered : Place → Result (Unit {0}) LineError
 answered (Err error) = Err error
 answered (Ok at) = Ok tt
 
--- A call does this step, and after want of memory all is as before.
+-- A call does this step, and if memory runs out, all is as before.
 abbrev pub Does : Result (Unit {0}) LineError → Step → Reader → Reader → List RawEvent → List RawEvent → Type 0
 Does (Err errors.Memory) step old new before after = (new ≡ old) × (after ≡ before)
 Does answer step old new before after = (answer ≡ answered step.place) × (new ≡ record { devices = old.devices; place = step.place }) × (after ≡ before ++ step.events)

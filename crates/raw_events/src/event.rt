@@ -30,7 +30,7 @@ pub enum LineError {
     /// The line has more than 4,096 bytes before its newline.
     TooLong { line: u64 },
 
-    /// Want of memory.
+    /// Memory ran out.
     Memory,
 }
 

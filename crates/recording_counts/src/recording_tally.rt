@@ -55,7 +55,7 @@ impl RecordingTally {
     }
 
     /// Feeds the next piece. A line is refused at its newline, or at its 4,097th byte; that is what the whole recording
-    /// answers, whatever comes behind it. After a refusal or want of memory the counts mean nothing.
+    /// answers, whatever comes behind it. After a refusal, or if memory runs out, the counts mean nothing.
     pub fn feed(&mut self, piece: &[u8]) -> Result<(), LineError>
         ensures { (devices : Known) (plans : List DevicePlan) (bytes : List ℕ) → HasCounted devices plans bytes self.old
             → Counts result devices plans (bytes ++ piece.now) self.new }

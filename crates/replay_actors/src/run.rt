@@ -107,8 +107,8 @@ fn script_seats(alloc: Global, scripts: usize) -> Result<Vec<u64>, AllocError>
 }
 
 /// Runs the lanes beside each other until all have ended, and then does all that is left to do: by the history of the
-/// core it is a race of these lanes. Once nothing is left to do the core is not called any more. Want of memory is the
-/// only other answer.
+/// core it is a race of these lanes. Once nothing is left to do the core is not called any more. Running out of memory
+/// is the only other answer.
 pub fn run_lanes<R: Threads + Wait + Sync, G: Gate + Sync>(
     rt: &R,
     alloc: Global,

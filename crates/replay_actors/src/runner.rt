@@ -20,7 +20,7 @@ pub struct Start {
 }
 
 /// Runs the lanes as threads, at which the gate stands, until all have ended, and then does all that is left to do.
-/// Want of memory is the only other answer, and then no core is left.
+/// Running out of memory is the only other answer, and then no core is left.
 pub fn run_start<R: Threads + Wait + Sync, G: Gate + Sync>(
     rt: &R,
     alloc: Global,

@@ -94,7 +94,7 @@ impl Schedule {
         text.push(rest_text(alloc, &self.dispatcher, channel)?)
     }
 
-    /// Appends the last line of a channel's section: how far its owner has come. After want of memory the text is as
+    /// Appends the last line of a channel's section: how far its owner has come. If memory runs out, the text is as
     /// before.
     pub fn add_end(&self, channel: u32, text: &mut Vec<u8>) -> Result<(), AllocError>
         ensures ok { (how : Lines) (plan : PlanView) (es : List Effect) → HasWith how plan es self.now

@@ -49,7 +49,7 @@ impl Schedule {
     }
 
     /// Does all that is due before these args, and hands them in. A run that has become too long does nothing more.
-    /// After want of memory the dispatcher is as after what was done up to then, and nothing else is said of the run.
+    /// If memory runs out, the dispatcher is as after what was done up to then, and nothing else is said of the run.
     /// Mostly what is due is finishes of owners who finish at once: a loop of its own does those that come first.
     #[inline(never)]
     pub fn take(&mut self, plan: &Plan, moment: Moment, args: &Args) -> Result<(), AllocError>
@@ -73,7 +73,7 @@ impl Schedule {
         Ok(())
     }
 
-    /// Does all that is due up to the end, once all args came. After want of memory the dispatcher is as after what was
+    /// Does all that is due up to the end, once all args came. If memory runs out, the dispatcher is as after what was
     /// done up to then, and nothing else is said of the run.
     pub fn finish(&mut self, plan: &Plan) -> Result<(), AllocError>
         requires { IsRun plan.now }

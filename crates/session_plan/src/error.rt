@@ -27,7 +27,7 @@ pub enum PlanError {
     /// The key layout of this device is refused; the error is never out of memory.
     BadLayout { device: u8, error: LayoutError },
 
-    /// Want of memory.
+    /// Memory ran out.
     Memory,
 }
 
@@ -35,7 +35,7 @@ impl PlanError {
     ghost use Rattle.session_plan.specs.ErrorLine.{error_line};
 
     /// The line that says why the session is refused, as `session: OutOfRange display.width 0`, without a newline at
-    /// its end. Want of memory is no refusal, and its line is empty.
+    /// its end. Running out of memory is no refusal, and its line is empty.
     pub fn line(&self, alloc: Global) -> Result<String, AllocError>
         ensures { IfOk result (λ line. string_bytes line ≡ error_line self.now) }
     {

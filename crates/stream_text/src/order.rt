@@ -41,7 +41,7 @@ impl Order {
         }
     }
 
-    /// Puts a line behind the others. The lane of a `Script` line has to be 1 to 8. After want of memory the order is
+    /// Puts a line behind the others. The lane of a `Script` line has to be 1 to 8. If memory runs out, the order is
     /// as before.
     pub fn push(&mut self, line: OrderLine) -> Result<(), AllocError>
         requires { HasLane line }
@@ -147,7 +147,7 @@ fn add_order(text: &mut Vec<u8>, lines: &[OrderLine]) -> Result<(), AllocError>
     add_lines(text, lines)
 }
 
-/// Appends an order: how many lines it has, and the lines. After want of memory `out` is as before.
+/// Appends an order: how many lines it has, and the lines. If memory runs out, `out` is as before.
 pub fn order_text(order: &Order, out: &mut Vec<u8>) -> Result<(), AllocError>
     ensures ok { OnOk result (out.new.items ≡ out.old.items ++ order_spelling order.now) }
     ensures err { OnErr result (out.new.items ≡ out.old.items) }

@@ -11,7 +11,7 @@ pub enum OrderError {
     /// line there.
     BadLine { line: u64 },
 
-    /// Want of memory.
+    /// Memory ran out.
     Memory,
 }
 

@@ -11,7 +11,7 @@ pub enum StreamError {
     /// the number one past the last line there.
     BadLine { line: u64 },
 
-    /// Want of memory.
+    /// Memory ran out.
     Memory,
 }
 

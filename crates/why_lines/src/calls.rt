@@ -40,7 +40,7 @@ fn make(dispatcher: &mut Dispatcher, call: &Call) -> Result<(), AllocError>
 
 /// Makes a call as [`apply`](Dispatcher::apply) does, and adds what its step tells to the end of a text.
 ///
-/// After want of memory the call was made or it was not, and a part of its lines may have been added.
+/// If memory runs out, the call was made or it was not, and a part of its lines may have been added.
 pub fn apply(text: &mut Vec<u8>, dispatcher: &mut Dispatcher, call: &Call) -> Result<(), AllocError>
     ensures outgoing { (es : List Effect) → StandsFor es dispatcher.old
         → OnOk result

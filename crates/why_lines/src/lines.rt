@@ -7,7 +7,7 @@
 //!
 //! Each puts its line, with the clock in microseconds in front and the newline behind, at the end of a text. What the
 //! words of a line are is defined in `why_text`. Sets of windows come as masks, in which bit `channel - 1` stands for a
-//! channel, and sets of pointer ids as `Bits32`. After want of memory a part of the line may stand in the text.
+//! channel, and sets of pointer ids as `Bits32`. If memory runs out, a part of the line may stand in the text.
 #![tactic(auto, unfolding(text_lines::specs::Written::labeled))]
 
 mod changes;

@@ -1,4 +1,4 @@
-//! Steps that are made and told. After want of memory the step was made or it was not, and a part of the lines may have
+//! Steps that are made and told. If memory runs out, the step was made or it was not, and a part of the lines may have
 //! been added.
 ghost use Rattle.std.specs.Prelude.{List, OnOk};
 ghost use Rattle.dispatch_calls.specs.declared.call.Call.TheVariants.{Finish, Open, Pilfer, Pump, Remove, Tick};

@@ -19,7 +19,7 @@ impl WindowFlags {
     /// It never has the focus.
     pub const NOT_FOCUSABLE: WindowFlags = WindowFlags { bits: 2 };
 
-    /// It is told of a touch that goes to a window behind it.
+    /// It is sent a touch outside of it, where that goes to a window behind it.
     pub const WATCH_OUTSIDE_TOUCH: WindowFlags = WindowFlags { bits: 4 };
 
     /// A finger that moves out of it may go on to the window that it comes to.

@@ -1,7 +1,7 @@
 //! What is on the displays: the windows, front to back, and which of them a point touches.
 //!
 //! A snapshot lists the windows with the one in front first. A point touches the first window that takes touches there;
-//! the spies in front of it see the touch too, and the watchers in front of it are told that it fell outside of them.
+//! the spies in front of it see the touch too, and the watchers in front of it are sent a touch outside of them.
 //! With a spy from (0, 0) to (1080, 1200) as channel 1 in front of a window of the whole display as channel 2, the
 //! point (100, 100) touches channel 2 and has the spies {1}, and the point (100, 2000) touches channel 2 and has none.
 //!

@@ -12,7 +12,7 @@ use touch_region::{Rect, Region};
 /// One window of a snapshot.
 #[derive(Drop)]
 pub struct Window {
-    /// The channel that tells the window's owner what it gets.
+    /// The channel by which the window's owner is sent what the window gets.
     pub channel: u32,
     /// The display that it is on. Its pixels are those of this display.
     pub display: DisplayId,

@@ -43,7 +43,7 @@ fn may_hear(round: &Round, touches: &Touches) -> u64
     }
 }
 
-/// The mask of the window that is told of keys, where there are some.
+/// The mask of the window that is sent keys, where there are some.
 pub(crate) fn keyed(keys: &[KeyMsg], target: u32) -> u64
     ensures { result ≡ keyed keys.now target }
 {

@@ -1,4 +1,4 @@
-//! Light rounds: they give no window a pointer and take none from a window, and leave the focus. So a window is told of
+//! Light rounds: they give no window a pointer and take none from a window, and leave the focus. So a window is sent
 //! a Move that some of its pointers move, and of keys.
 ghost use Rattle.std.specs.Prelude.{◌≡◌, ◌≤◌, ◌<◌, ◌^◌, ℕ, true, false, None, length, OnOk, IfOk, IsOk};
 ghost use Rattle.std.specs.Option.{option_copied};
@@ -72,7 +72,7 @@ fn most_light(round: &Round, window: u32) -> Result<u32, AllocError>
     }
 }
 
-/// Makes room for what a light round tells a window.
+/// Makes room for what a light round sends a window.
 #[inline(always)]
 fn make_room_in(round: &Round, channels: &mut Channels, window: u32) -> Result<(), AllocError>
     requires { IsOpened channels.old window }
@@ -87,7 +87,7 @@ fn make_room_in(round: &Round, channels: &mut Channels, window: u32) -> Result<(
     channels.make_ready(window, count)
 }
 
-/// Makes room for all that a light round tells the windows that are live, so that [`send_light`] takes no memory, and
+/// Makes room for all that a light round sends the windows that are live, so that [`send_light`] takes no memory, and
 /// answers their mask. With and without memory nothing changes but the room that channels have. Where they have enough
 /// already, no memory is taken.
 #[inline(always)]
@@ -149,7 +149,7 @@ fn by_id<'a>(motion: Option<&'a Motion>) -> Option<MotionById<'a>>
     }
 }
 
-/// One window is told that the pointers move that it holds, where the motion lists some of them.
+/// Sends one window a Move of the pointers that it holds, where the motion lists some of them.
 #[inline(always)]
 fn move_held(
     to: &Listener,
@@ -176,7 +176,7 @@ fn move_held(
     }
 }
 
-/// One window is told of the motion of a light round, where it has one.
+/// Sends one window the motion of a light round, where it has one.
 #[inline(always)]
 fn say_light(
     to: &Listener,

@@ -1,4 +1,4 @@
-//! Room for what a step tells.
+//! Room for what a step sends.
 ghost use Rattle.std.specs.Prelude.{◌≡◌, ◌≤◌, ◌<◌, ◌^◌, ℕ, true, false, length, max, OnOk, OnErr, IfOk, IsOk};
 ghost use Rattle.dispatcher.specs.KeyTables.Focused.{change_sent};
 ghost use Rattle.std.specs.Option.{option_copied};
@@ -83,7 +83,7 @@ fn most_bodies(round: &Round, channels: &Channels, window: u32) -> Result<u32, A
     }
 }
 
-/// Makes room for what a step tells a window.
+/// Makes room for what a step sends a window.
 fn make_room_in(round: &Round, channels: &mut Channels, window: u32) -> Result<(), AllocError>
     requires { IsOpened channels.old window }
     ensures ok { let most = most_bodies round.now window (input_of channels.old window) in
@@ -98,7 +98,7 @@ fn make_room_in(round: &Round, channels: &mut Channels, window: u32) -> Result<(
     channels.reserve(window, count)
 }
 
-/// Makes room for all that a step tells the windows that are live, so that
+/// Makes room for all that a step sends the windows that are live, so that
 /// [`send_all`](crate::dispatch_round::tell_all) takes no memory, and answers their mask: no other is sent anything.
 /// With and without memory nothing changes but the room that channels have. Where they have enough already, no memory
 /// is taken.

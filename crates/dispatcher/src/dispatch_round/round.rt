@@ -1,9 +1,9 @@
-//! What a step tells.
+//! What a step sends.
 use crate::window_covers::Gift;
 use input_types::{KeyMsg, Motion};
 use route_split::Mark;
 
-/// What one step of the dispatcher tells windows. A window goes by the number of its channel, and masks are sets of
+/// What one step of the dispatcher sends windows. A window goes by the number of its channel, and masks are sets of
 /// channels.
 #[derive(Clone, Copy)]
 pub struct Round<'a> {
@@ -13,11 +13,11 @@ pub struct Round<'a> {
     pub motion: Option<&'a Motion>,
     /// What lies over the windows that it gives a pointer; None, where it gives none.
     pub gift: Option<Gift>,
-    /// The windows that are told that a touch is outside of them.
+    /// The windows that are sent a touch outside of them.
     pub watchers: u64,
-    /// The window that is told of keys.
+    /// The window that is sent keys.
     pub target: u32,
-    /// What it is told of them, in this order.
+    /// The keys that it is sent, in this order.
     pub keys: &'a [KeyMsg],
     /// The windows that lose the focus.
     pub lost: u64,

@@ -75,7 +75,7 @@ fn send_each(
     }
 }
 
-/// Changes the tables of touches by the mark of the step, at its place, and tells the windows of a mask.
+/// Changes the tables of touches by the mark of the step, at its place, and sends each window of a mask its messages.
 fn change_and_send(
     outgoing: u64,
     clock: Moment,

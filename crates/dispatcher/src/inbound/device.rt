@@ -73,7 +73,7 @@ impl DeviceDown {
         })
     }
 
-    /// What is told of args that may not come.
+    /// What args that may not come are answered.
     fn refused(&self, key_down: bool) -> Inconsistent
         ensures pointers { members result.pointers ≡ (state_of self.now).ids }
         ensures key { result.key_down ≡ key_down }

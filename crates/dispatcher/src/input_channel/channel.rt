@@ -100,7 +100,7 @@ impl Channel {
         self.finished
     }
 
-    /// Makes room, so that the next `n` calls of `enqueue` cannot answer want of memory. Without memory nothing
+    /// Makes room, so that the next `n` calls of `enqueue` cannot run out of memory. Without memory nothing
     /// changes.
     pub fn reserve(&mut self, n: u32) -> Result<(), AllocError>
         ensures ok { OnOk result (self.new ≡ with_spare n self.old) }

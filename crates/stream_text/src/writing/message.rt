@@ -117,7 +117,7 @@ impl LineWriter {
         }
     }
 
-    /// Appends the line of a message. After want of memory `out` is as before.
+    /// Appends the line of a message. If memory runs out, `out` is as before.
     ///
     /// A motion has ` canceled` in it if its flags but the marks are `FLAG_CANCELED`, and ` obscured` and ` partly` for
     /// its marks; the up of a key has ` canceled` if its flags are `FLAG_CANCELED`. Other flags, the index of an action

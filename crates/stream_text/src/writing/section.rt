@@ -47,7 +47,7 @@ fn add_anr(text: &mut Vec<u8>, clock: u64, channel: u32, seq: u64) -> Result<(),
 }
 
 /// Appends the section of a channel: its number and name, a line for each message of its stream, and how many of them
-/// were sent, received and finished. After want of memory `out` is as before.
+/// were sent, received and finished. If memory runs out, `out` is as before.
 pub fn channel_text(
     id: u32,
     name: &str,
@@ -65,7 +65,7 @@ pub fn channel_text(
     out.extend_from_slice(&text)
 }
 
-/// Appends the first line of a channel's section: its number and name. After want of memory `out` is as before.
+/// Appends the first line of a channel's section: its number and name. If memory runs out, `out` is as before.
 pub fn channel_line_text(id: u32, name: &str, out: &mut Vec<u8>) -> Result<(), AllocError>
     ensures ok { OnOk result (out.new.items ≡ out.old.items ++ channel_line id name.now) }
     ensures err { OnErr result (out.new.items ≡ out.old.items) }

@@ -14,7 +14,7 @@ use bits32::Bits32;
 use input_types::{DeviceId, Moment, Pixel};
 
 impl Channels {
-    /// A live channel is told that pointers of a device move, those of a motion that have these ids, with these flags,
+    /// Sends a live channel a Move of pointers of a device: those of a motion that have these ids, with these flags,
     /// as `send` would tell it. The places go from the motion into what the window was sent, and from there straight
     /// into the message. Takes no memory.
     pub fn send_moves(
