@@ -17,6 +17,10 @@
 //! gives at once that key 24 goes down. At a SYN_DROPPED, by which the kernel says that events were lost, the device
 //! gives a `Reset`, all that was known of it is forgotten, and what comes up to the next SYN_REPORT is passed over.
 //!
+//! A touch device is read in three steps, each a module of its own. [`slot_accumulator`] keeps what the events of a
+//! packet say of its slots, [`pointer_ids`] gives each contact a pointer id, and [`touch_mapper`] makes motions of what
+//! changed since the packet before.
+//!
 //! `Readers` has the readers of all devices of a recording and takes one event at a time; `cook` takes a whole
 //! recording.
 #![tactic(auto)]

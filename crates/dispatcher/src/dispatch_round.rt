@@ -1,4 +1,4 @@
-//! Tells the windows of one step of the dispatcher what the rules say.
+//! Sends the windows of one step of the dispatcher what the rules say.
 //!
 //! Windows 1 and 2 stand side by side, the corner of window 2 at (500, 0). Pointer 0 of device 1 is down in window 1,
 //! and a second finger goes down in window 2:

@@ -25,6 +25,12 @@
 //! repeat     no key
 //! ```
 //!
+//! Each table is a module of its own, with the calls that change it: [`inbound`] the args that wait, [`window_covers`]
+//! what lies over the windows that hold pointers, [`dispatch_channels`] the channels, and [`key_tables`] the focus and
+//! keys. [`dispatch_round`] sends the windows of one step their messages, and [`dispatch_tables`] says what each step
+//! makes of the tables. A channel ([`input_channel`]) keeps what its window was sent, [`cancel_synthesis`] what a
+//! window must be sent when it loses what it holds, and [`anr_tracker`] when the channel is late.
+//!
 //! What it keeps stands for a history (`StandsFor` of specs/Dispatching), as a reader of a device stands for its
 //! events: these tables are what a legal history says (specs/Knows), and each call that is answered makes them stand
 //! for the same history with that step more. The definitions of the history say what the answer is.
