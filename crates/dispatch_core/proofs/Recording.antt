@@ -15,7 +15,7 @@ use Rattle.dispatch_history.proofs.WholeLaws.{whole_law, well_formed_law, remove
 use Rattle.dispatcher.specs.Access.{gone, anrs_released}
 use Rattle.dispatcher.specs.Dispatching.{Dispatching, StandsFor}
 use Rattle.dispatcher.specs.Memory.{MayCount}
-use Rattle.dispatcher.proofs.Standing.{after_of}
+use Rattle.dispatcher.proofs.Laws.Standing.{after_of}
 use Rattle.dispatcher.specs.Queueing.{args_in, is_input}
 use Rattle.dispatch_core.specs.Recorded.{history_of, pumps_left, IsRecorded, IsSound, AnswersGone, HasRoom}
 

@@ -93,7 +93,7 @@ impl Dispatcher {
 
     /// The messages of a channel, but for those that were let go; None exactly where none was opened with this
     /// number. Of a live channel only messages that were received were let go.
-    #[tactic(auto, using(crate::proofs::Releasing::most_gone))]
+    #[tactic(auto, using(crate::proofs::Made::Releasing::most_gone))]
     pub fn messages(&self, channel: u32) -> Option<&[Message]>
         ensures value { (es : List Effect) → IsAfter es self.now
             → option_map (λ ms. ms.now) result ≡ messages_of es self.now channel }

@@ -10,7 +10,7 @@ use Rattle.dispatch_history.specs.Ordered.{is_scripted, scripted}
 use Rattle.dispatch_history.specs.Plan.{Plan}
 use Rattle.dispatcher.specs.Answered.{StepsTwice}
 use Rattle.dispatcher.specs.Dispatching.{Dispatching, IsAfter}
-use Rattle.dispatcher.proofs.Following.{known_so}
+use Rattle.dispatcher.proofs.Made.Following.{known_so}
 use Rattle.schedule.specs.declared.keeping.Lines.{Lines}
 use Rattle.schedule.specs.Causes.{Applies, and_more}
 use Rattle.schedule.specs.Kinds.{is_receiving}

@@ -4,7 +4,7 @@ use Rattle.dispatch_calls.specs.declared.call.Call.{Call}
 use Rattle.dispatch_history.specs.Effect.{Effect}
 use Rattle.dispatcher.specs.Answered.{StepsOn}
 use Rattle.dispatcher.specs.Dispatching.{Dispatching, StandsFor}
-use Rattle.dispatcher.proofs.Standing.{stands_on}
+use Rattle.dispatcher.proofs.Laws.Standing.{stands_on}
 use Rattle.why_lines.specs.Explaining.{MayMake, Explains, ExplainsAfter}
 
 -- nothing was done

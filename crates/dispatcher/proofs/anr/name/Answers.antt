@@ -4,8 +4,8 @@ use Rattle.dispatcher.specs.declared.dispatch_round.round.Round.{Round}
 use Rattle.dispatcher.specs.DispatchRound.Rounds.{AreListeners, IsReady}
 use Rattle.dispatcher.specs.Carrying.{CarriesOut}
 use Rattle.dispatcher.specs.Tables.{SameButRoom}
-use Rattle.dispatcher.proofs.Oks.{on_err}
-use Rattle.dispatcher.proofs.Timely.{timely_room, timely_named}
+use Rattle.dispatcher.proofs.Room.Oks.{on_err}
+use Rattle.dispatcher.proofs.Made.Timely.{timely_room, timely_named}
 use Rattle.dispatcher.proofs.anr.name.Goals as goal
 
 pub carry_out-requires-clause-timely : goal.carry_out-requires-clause-timely

@@ -1,8 +1,8 @@
 -- The list of cancelled keys says nothing of a history.
 use Rattle.std.proofs.Common.{arith}
 use Rattle.dispatcher.specs.Keying.{named_keys}
-use Rattle.dispatcher.proofs.Cancelling.{same_with, names_with}
-use Rattle.dispatcher.proofs.Oks.{on_ok}
+use Rattle.dispatcher.proofs.Rounds.Cancelling.{same_with, names_with}
+use Rattle.dispatcher.proofs.Room.Oks.{on_ok}
 use Rattle.dispatcher.proofs.anr.name_some.Goals as goal
 
 pub returns-clause-ok : goal.returns-clause-ok

@@ -1,8 +1,8 @@
 use Rattle.std.proofs.Common.{sym, ap, ◌∙◌, subst}
 use Rattle.dispatcher.specs.CancelSynthesis.Ends.{keys_cancelled}
 use Rattle.dispatcher.specs.Anr.{Names}
-use Rattle.dispatcher.proofs.Oks.{on_ok}
-use Rattle.dispatcher.proofs.Refocused.{named_is}
+use Rattle.dispatcher.proofs.Room.Oks.{on_ok}
+use Rattle.dispatcher.proofs.Rounds.Refocused.{named_is}
 use Rattle.dispatcher.proofs.anr.send_names.Goals as goal
 
 pub returns-in_ok-cancel_keys_into-in-Some-clause-ok : goal.returns-in_ok-cancel_keys_into-in-Some-clause-ok

@@ -1,8 +1,8 @@
 use Rattle.std.proofs.Common.{sym, ap, ◌∙◌, lit<}
 use Rattle.window_snapshot.specs.Mask.{mask_has}
 use Rattle.window_snapshot.proofs.Masks.{mask_has-zero, same_mask}
-use Rattle.dispatcher.proofs.NoOps.{names_none}
-use Rattle.dispatcher.proofs.Refocused.{names_some}
+use Rattle.dispatcher.proofs.Made.NoOps.{names_none}
+use Rattle.dispatcher.proofs.Rounds.Refocused.{names_some}
 use Rattle.dispatcher.proofs.anr.tick.Goals as goal
 
 pub returns-then-mask-eq0-clause-ok : goal.returns-then-mask-eq0-clause-ok

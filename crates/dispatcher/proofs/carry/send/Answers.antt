@@ -1,7 +1,7 @@
 use Rattle.std.proofs.Common.{refl, sym}
 use Rattle.std.proofs.lemmas.Bool.{true≢false}
-use Rattle.dispatcher.proofs.Roomy.{round_roomy, most_room}
-use Rattle.dispatcher.proofs.Timely.{timely_room}
+use Rattle.dispatcher.proofs.Room.Roomy.{round_roomy, most_room}
+use Rattle.dispatcher.proofs.Made.Timely.{timely_room}
 use Rattle.dispatcher.proofs.carry.send.Goals as goal
 
 pub carry_out-requires-clause-timely : goal.carry_out-requires-clause-timely

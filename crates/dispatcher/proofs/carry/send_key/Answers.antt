@@ -1,6 +1,6 @@
 use Rattle.std.proofs.Common.{[], ◌∷◌, refl, sym, ap, subst, ◌∙◌, unwrap_or}
 use Rattle.dispatcher.specs.Roomy.{AreModest}
-use Rattle.dispatcher.proofs.Oks.{on_ok}
+use Rattle.dispatcher.proofs.Room.Oks.{on_ok}
 use Rattle.dispatcher.proofs.carry.send_key.Goals as goal
 
 pub send_lightly-requires-clause-light : goal.send_lightly-requires-clause-light

@@ -2,8 +2,8 @@ use Rattle.std.proofs.Common.{List, refl, ap, subst, sym}
 use Rattle.std.proofs.lemmas.Bool.{true≢false}
 use Rattle.input_types.specs.declared.axis.Pixel.{Pixel}
 use Rattle.dispatcher.specs.Carrying.{SendsRound}
-use Rattle.dispatcher.proofs.Moved.{light_roomy, room_for_light}
-use Rattle.dispatcher.proofs.Timely.{timely_room}
+use Rattle.dispatcher.proofs.Rounds.Moved.{light_roomy, room_for_light}
+use Rattle.dispatcher.proofs.Made.Timely.{timely_room}
 use Rattle.dispatcher.proofs.carry.send_lightly.Goals as goal
 
 pub send_light-requires-clause-timely : goal.send_light-requires-clause-timely

@@ -7,7 +7,7 @@ use Rattle.focus_resolver.specs.declared.resolver.Change.{Change}
 use Rattle.dispatcher.specs.DispatchRound.Rounds.{may_take, keyed}
 use Rattle.dispatcher.specs.Carrying.{IsSilent}
 use Rattle.dispatcher.specs.Roomy.{AreModest}
-use Rattle.dispatcher.proofs.Oks.{on_ok}
+use Rattle.dispatcher.proofs.Room.Oks.{on_ok}
 use Rattle.dispatcher.proofs.carry.send_still.Goals as goal
 
 -- A round that is silent concerns no window.

@@ -3,7 +3,7 @@ use Rattle.dispatch_calls.specs.declared.call.Call.TheVariants.{Open}
 use Rattle.dispatch_calls.specs.declared.reply.Reply.TheVariants.{Full}
 use Rattle.dispatcher.specs.DispatchChannels.Changes.{OpensOrNot}
 use Rattle.dispatcher.specs.Tables.{Goes}
-use Rattle.dispatcher.proofs.Opening.{welcome, timely_opened, opens_goes, opens_none}
+use Rattle.dispatcher.proofs.Made.Opening.{welcome, timely_opened, opens_goes, opens_none}
 use Rattle.dispatcher.proofs.focusing.open.Goals as goal
 
 pub welcome-requires-clause-timely : goal.welcome-requires-clause-timely

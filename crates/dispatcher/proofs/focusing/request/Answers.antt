@@ -1,6 +1,6 @@
 use Rattle.std.proofs.Common.{◌<◌, refl, sym, ◌∙◌, arith}
 use Rattle.std.proofs.lemmas.Bool.{true≢false}
-use Rattle.dispatcher.proofs.Refocused.{request_goes, quiet_request}
+use Rattle.dispatcher.proofs.Rounds.Refocused.{request_goes, quiet_request}
 use Rattle.dispatcher.proofs.focusing.request.Goals as goal
 
 pub returns-in_err-refocus-clause-calm : goal.returns-in_err-refocus-clause-calm

@@ -1,4 +1,4 @@
-use Rattle.dispatcher.proofs.Refocused.{show_goes}
+use Rattle.dispatcher.proofs.Rounds.Refocused.{show_goes}
 use Rattle.dispatcher.proofs.focusing.show.Goals as goal
 
 pub returns-clause-ok : goal.returns-clause-ok

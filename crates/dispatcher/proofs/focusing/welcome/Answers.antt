@@ -1,6 +1,6 @@
 use Rattle.std.proofs.Common.{refl, ap, ◌∙◌, bit_and, unwrap_or}
-use Rattle.dispatcher.proofs.Opening.{ready_welcome, welcomes_by}
-use Rattle.dispatcher.proofs.Refocused.{refocuses_by}
+use Rattle.dispatcher.proofs.Made.Opening.{ready_welcome, welcomes_by}
+use Rattle.dispatcher.proofs.Rounds.Refocused.{refocuses_by}
 use Rattle.dispatcher.proofs.focusing.welcome.Goals as goal
 
 pub carry_out-requires-clause-ready : goal.carry_out-requires-clause-ready

@@ -1,9 +1,9 @@
 use Rattle.std.proofs.Common.{option_map, refl, sym, ap, ◌∙◌}
 use Rattle.dispatch_history.specs.Reply.{is_due}
 use Rattle.std.proofs.lemmas.Bool.{true≢false}
-use Rattle.dispatcher.proofs.Oks.{on_err}
-use Rattle.dispatcher.proofs.Roomy.{modest_one, still_list, fewer}
-use Rattle.dispatcher.proofs.KeySteps.{idle_pump, repeat_pump, due_next}
+use Rattle.dispatcher.proofs.Room.Oks.{on_err}
+use Rattle.dispatcher.proofs.Room.Roomy.{modest_one, still_list, fewer}
+use Rattle.dispatcher.proofs.Rounds.KeySteps.{idle_pump, repeat_pump, due_next}
 use Rattle.dispatcher.proofs.key_steps.repeat.Goals as goal
 
 pub returns-then-not-is_due-clause-ok : goal.returns-then-not-is_due-clause-ok

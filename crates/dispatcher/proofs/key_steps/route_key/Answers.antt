@@ -4,11 +4,11 @@ use Rattle.window_snapshot.specs.Mask.{mask_has}
 use Rattle.focus_resolver.specs.Resolver.{target_of}
 use Rattle.dispatcher.specs.KeyTables.Held.{key_heard, one_sent}
 use Rattle.route_split.specs.declared.mark.Mark.TheVariants.{NoOp}
-use Rattle.dispatcher.proofs.Roomy.{modest_one, still_list, fewer}
-use Rattle.dispatcher.proofs.Stepping.{other_steps}
+use Rattle.dispatcher.proofs.Room.Roomy.{modest_one, still_list, fewer}
+use Rattle.dispatcher.proofs.Laws.Stepping.{other_steps}
 use Rattle.dispatcher.specs.Tables.{kept}
-use Rattle.dispatcher.proofs.Oks.{on_ok}
-use Rattle.dispatcher.proofs.KeySteps.{keyed_nobody, keyed_one, nobody_pump, args_pump}
+use Rattle.dispatcher.proofs.Room.Oks.{on_ok}
+use Rattle.dispatcher.proofs.Rounds.KeySteps.{keyed_nobody, keyed_one, nobody_pump, args_pump}
 use Rattle.dispatcher.proofs.key_steps.route_key.Goals as goal
 
 pub returns-in_default-clause-ok : goal.returns-in_default-clause-ok

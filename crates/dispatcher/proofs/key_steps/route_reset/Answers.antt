@@ -2,10 +2,10 @@
 use Rattle.std.proofs.Common.{suc, Some, sym, subst, arith}
 use Rattle.input_types.specs.declared.message.Args.TheVariants.{Reset as ResetOf}
 use Rattle.dispatch_calls.specs.declared.reply.Reply.TheVariants.{Dispatched}
-use Rattle.dispatcher.proofs.Cancelling.{same_with, pumps_with}
+use Rattle.dispatcher.proofs.Rounds.Cancelling.{same_with, pumps_with}
 use Rattle.dispatcher.specs.Roomy.{IsRoomy}
-use Rattle.dispatcher.proofs.Roomy.{longer}
-use Rattle.dispatcher.proofs.Oks.{on_ok}
+use Rattle.dispatcher.proofs.Room.Roomy.{longer}
+use Rattle.dispatcher.proofs.Room.Oks.{on_ok}
 use Rattle.dispatcher.proofs.key_steps.route_reset.Goals as goal
 
 pub returns-clause-ok : goal.returns-clause-ok

@@ -3,12 +3,12 @@ use Rattle.input_types.specs.declared.message.Args.TheVariants.{Reset as ResetOf
 use Rattle.focus_resolver.specs.Resolver.{target_of}
 use Rattle.dispatcher.specs.CancelSynthesis.Ends.{keys_cancelled, of_device}
 use Rattle.route_split.specs.declared.mark.Mark.TheVariants.{Empty}
-use Rattle.dispatcher.proofs.Stepping.{other_steps}
+use Rattle.dispatcher.proofs.Laws.Stepping.{other_steps}
 use Rattle.dispatcher.specs.Tables.{kept}
 use Rattle.dispatcher.specs.Roomy.{AreModest}
-use Rattle.dispatcher.proofs.Roomy.{modest_none, modest_cancelled, alive_of, listens_to}
-use Rattle.dispatcher.proofs.Oks.{on_ok}
-use Rattle.dispatcher.proofs.KeySteps.{keyed_nobody, keyed_one, args_pump}
+use Rattle.dispatcher.proofs.Room.Roomy.{modest_none, modest_cancelled, alive_of, listens_to}
+use Rattle.dispatcher.proofs.Room.Oks.{on_ok}
+use Rattle.dispatcher.proofs.Rounds.KeySteps.{keyed_nobody, keyed_one, args_pump}
 use Rattle.dispatcher.proofs.key_steps.send_reset.Goals as goal
 
 pub returns-in_default-clause-ok : goal.returns-in_default-clause-ok

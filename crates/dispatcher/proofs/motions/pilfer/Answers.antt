@@ -2,7 +2,7 @@ use Rattle.std.proofs.Common.{◌==◌, ◌&&◌, sym, ap, ◌∙◌}
 use Rattle.std.specs.List.{list_any}
 use Rattle.window_snapshot.specs.Mask.{mask_has}
 use Rattle.window_snapshot.specs.Window.{is_spy}
-use Rattle.dispatcher.proofs.Pilfering.{pilfer_gone, pilfer_no_spy, pilfer_nothing, pilfers}
+use Rattle.dispatcher.proofs.Rounds.Pilfering.{pilfer_gone, pilfer_no_spy, pilfer_nothing, pilfers}
 use Rattle.dispatcher.proofs.motions.pilfer.Goals as goal
 
 pub returns-then-not-mask_has-clause-ok : goal.returns-then-not-mask_has-clause-ok

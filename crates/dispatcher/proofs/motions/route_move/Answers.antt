@@ -1,7 +1,7 @@
 use Rattle.std.proofs.Common.{refl, ap, ◌∙◌, unwrap_or}
-use Rattle.dispatcher.proofs.Roomy.{modest_none, still_list}
-use Rattle.dispatcher.proofs.Oks.{on_ok}
-use Rattle.dispatcher.proofs.Moved.{move_sent}
+use Rattle.dispatcher.proofs.Room.Roomy.{modest_none, still_list}
+use Rattle.dispatcher.proofs.Room.Oks.{on_ok}
+use Rattle.dispatcher.proofs.Rounds.Moved.{move_sent}
 use Rattle.dispatcher.proofs.motions.route_move.Goals as goal
 
 pub send_lightly-requires-clause-light : goal.send_lightly-requires-clause-light

@@ -3,7 +3,7 @@ use Rattle.window_snapshot.specs.Mask.{mask_has}
 use Rattle.dispatch_calls.specs.declared.call.Call.TheVariants.{Finish}
 use Rattle.dispatch_calls.specs.declared.reply.Reply.TheVariants.{UnknownSeq}
 use Rattle.dispatcher.specs.Tables.{Goes}
-use Rattle.dispatcher.proofs.NoOps.{finish_gone, finish_none, finish_one}
+use Rattle.dispatcher.proofs.Made.NoOps.{finish_gone, finish_none, finish_one}
 use Rattle.dispatcher.proofs.owners.finish.Goals as goal
 
 pub returns-then-not-mask_has : goal.returns-then-not-mask_has

@@ -1,6 +1,6 @@
 use Rattle.std.proofs.Common.{sym, ap, ◌∙◌}
 use Rattle.window_snapshot.specs.Mask.{mask_has}
-use Rattle.dispatcher.proofs.NoOps.{hands_gone, hands_live}
+use Rattle.dispatcher.proofs.Made.NoOps.{hands_gone, hands_live}
 use Rattle.dispatcher.proofs.owners.receive.Goals as goal
 
 pub returns-then-not-mask_has : goal.returns-then-not-mask_has

@@ -1,8 +1,8 @@
 use Rattle.std.proofs.Common.{None, refl, sym, ap, ◌∙◌, if◌then◌else◌}
 use Rattle.focus_resolver.specs.Resolver.{is_at}
 use Rattle.window_snapshot.specs.Mask.{mask_has}
-use Rattle.dispatcher.proofs.NoOps.{remove_gone, removes}
-use Rattle.dispatcher.proofs.Refocused.{refocuses_by}
+use Rattle.dispatcher.proofs.Made.NoOps.{remove_gone, removes}
+use Rattle.dispatcher.proofs.Rounds.Refocused.{refocuses_by}
 use Rattle.dispatcher.proofs.owners.remove.Goals as goal
 
 pub returns-then-not-mask_has : goal.returns-then-not-mask_has

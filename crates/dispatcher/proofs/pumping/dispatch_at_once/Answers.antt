@@ -1,7 +1,7 @@
 use Rattle.std.proofs.Common.{◌+◌, max, ap, ◌∙◌}
-use Rattle.dispatcher.proofs.Roomy.{promise_less, same_room}
-use Rattle.dispatcher.proofs.Timely.{timely}
-use Rattle.dispatcher.proofs.Through.{through_on}
+use Rattle.dispatcher.proofs.Room.Roomy.{promise_less, same_room}
+use Rattle.dispatcher.proofs.Made.Timely.{timely}
+use Rattle.dispatcher.proofs.Made.Through.{through_on}
 use Rattle.dispatcher.proofs.pumping.dispatch_at_once.Goals as goal
 
 pub dispatch-requires : goal.dispatch-requires

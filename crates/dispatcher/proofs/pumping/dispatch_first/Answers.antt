@@ -3,9 +3,9 @@ use Rattle.dispatch_calls.specs.declared.call.Call.TheVariants.{Pump}
 use Rattle.dispatch_calls.specs.declared.reply.Reply.TheVariants.{Dispatched}
 use Rattle.dispatcher.specs.Tables.{GoesOn}
 use Rattle.std.proofs.lemmas.Bool.{true≢false}
-use Rattle.dispatcher.proofs.Roomy.{promise_less, promise_ok, same_room}
-use Rattle.dispatcher.proofs.Timely.{timely}
-use Rattle.dispatcher.proofs.Stepped.{dispatched_on, other_pumps}
+use Rattle.dispatcher.proofs.Room.Roomy.{promise_less, promise_ok, same_room}
+use Rattle.dispatcher.proofs.Made.Timely.{timely}
+use Rattle.dispatcher.proofs.Laws.Stepped.{dispatched_on, other_pumps}
 use Rattle.dispatcher.proofs.pumping.dispatch_first.Goals as goal
 
 pub dispatch-requires : goal.dispatch-requires

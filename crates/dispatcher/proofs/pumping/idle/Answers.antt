@@ -2,10 +2,10 @@ use Rattle.std.proofs.Common.{◌-◌, max, ap, sym, subst, ◌∙◌}
 use Rattle.dispatch_calls.specs.declared.call.Call.TheVariants.{Pump}
 use Rattle.dispatcher.specs.Tables.{GoesOn}
 use Rattle.std.proofs.lemmas.Bool.{true≢false}
-use Rattle.dispatcher.proofs.Roomy.{promise_less, promise_ok, same_room}
+use Rattle.dispatcher.proofs.Room.Roomy.{promise_less, promise_ok, same_room}
 use Rattle.dispatcher.specs.Outcomes.{reply_of}
-use Rattle.dispatcher.proofs.Timely.{timely}
-use Rattle.dispatcher.proofs.Stepped.{idle_on, not_idle, other_pumps}
+use Rattle.dispatcher.proofs.Made.Timely.{timely}
+use Rattle.dispatcher.proofs.Laws.Stepped.{idle_on, not_idle, other_pumps}
 use Rattle.dispatcher.proofs.pumping.idle.Goals as goal
 
 pub repeat-requires : goal.repeat-requires

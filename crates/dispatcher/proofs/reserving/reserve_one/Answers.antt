@@ -2,8 +2,8 @@
 use Rattle.std.proofs.Common.{length, ap, ◌∙◌}
 use Rattle.dispatcher.specs.DispatchChannels.Table.{but_for_room}
 use Rattle.dispatcher.proofs.DispatchRound.Rooms.{same_but_room}
-use Rattle.dispatcher.proofs.Oks.{on_ok}
-use Rattle.dispatcher.proofs.RoomMade.{more_room, made_room}
+use Rattle.dispatcher.proofs.Room.Oks.{on_ok}
+use Rattle.dispatcher.proofs.Room.RoomMade.{more_room, made_room}
 use Rattle.dispatcher.proofs.reserving.reserve_one.Goals as goal
 
 pub returns-clause-same : goal.returns-clause-same

@@ -1,5 +1,5 @@
 -- One channel more has room.
-use Rattle.dispatcher.proofs.RoomMade.{same_then, one_more_has}
+use Rattle.dispatcher.proofs.Room.RoomMade.{same_then, one_more_has}
 use Rattle.dispatcher.proofs.reserving.reserve_pumps.Goals as goal
 
 pub channels-preserved : goal.channels-preserved

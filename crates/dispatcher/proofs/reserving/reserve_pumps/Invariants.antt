@@ -1,5 +1,5 @@
 use Rattle.dispatcher.specs.Tables.{SameButRoom}
-use Rattle.dispatcher.proofs.RoomMade.{HaveRoom}
+use Rattle.dispatcher.proofs.Room.RoomMade.{HaveRoom}
 use Rattle.dispatcher.proofs.reserving.reserve_pumps.Given as goal
 
 -- the channels that were looked at have room

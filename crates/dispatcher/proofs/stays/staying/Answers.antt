@@ -5,7 +5,7 @@ use Rattle.window_snapshot.specs.Mask.{is_channel, mask_has}
 use Rattle.window_snapshot.specs.Named.{is_named}
 use Rattle.window_snapshot.proofs.Masks.{mask_has-mask_of}
 use Rattle.focus_resolver.proofs.Masks.{mask_has-without}
-use Rattle.dispatcher.proofs.Missing.{is_gone, stay}
+use Rattle.dispatcher.proofs.Rounds.Missing.{is_gone, stay}
 use Rattle.dispatcher.proofs.stays.staying.Goals as goal
 
 pub returns : goal.returns

@@ -1,6 +1,6 @@
 -- What is released is that of the call.
 use Rattle.std.proofs.Common.{◌≡◌, Some, sym, ◌∙◌, subst}
-use Rattle.dispatcher.proofs.Standing.{after_of}
+use Rattle.dispatcher.proofs.Laws.Standing.{after_of}
 use Rattle.live_input.specs.Releases.{IsLiveChannel, receives_from}
 use Rattle.live_input.proofs.Released.{release_all, anrs_go, no_tick, received_go}
 use Rattle.live_input.proofs.releasing.release_after.Goals as goal

@@ -1,6 +1,6 @@
 use Rattle.std.proofs.Common.{[], refl, sym, ap, ◌∙◌}
 use Rattle.std.proofs.lemmas.List.{length-map}
-use Rattle.dispatcher.proofs.Standing.{after_of}
+use Rattle.dispatcher.proofs.Laws.Standing.{after_of}
 use Rattle.schedule.specs.Lines.{lines_first, texts}
 use Rattle.schedule.specs.Planned.{channel_of}
 use Rattle.schedule.proofs.open.unopened.Goals as goal

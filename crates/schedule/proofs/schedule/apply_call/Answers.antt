@@ -1,7 +1,7 @@
 -- A call that is sent, and one that is not.
 use Rattle.std.proofs.Common.{sym, subst}
 use Rattle.std.proofs.lemmas.Result.{on_ok_weaker}
-use Rattle.dispatcher.proofs.Following.{known_so}
+use Rattle.dispatcher.proofs.Made.Following.{known_so}
 use Rattle.schedule.specs.More.{ComesTo}
 use Rattle.schedule.proofs.Caused.{applies_alone, applies_sent}
 use Rattle.schedule.proofs.More.{made_more, one_more}

@@ -1,5 +1,5 @@
-use Rattle.dispatcher.proofs.Following.{known_so}
-use Rattle.dispatcher.proofs.Standing.{after_of}
+use Rattle.dispatcher.proofs.Made.Following.{known_so}
+use Rattle.dispatcher.proofs.Laws.Standing.{after_of}
 use Rattle.why_lines.proofs.Making.{made_now, sends_now}
 use Rattle.why_lines.proofs.Outgoing.{unsent}
 use Rattle.why_lines.proofs.calls.make.Goals as goal

@@ -2,7 +2,7 @@ use Rattle.std.proofs.Common.{◌||◌, ◌==◌, sym, ap, ap₂, ◌∙◌, sub
 use Rattle.std.specs.List.{list_any}
 use Rattle.window_snapshot.specs.Mask.{mask_has}
 use Rattle.route_split.specs.Tables.{any_at}
-use Rattle.dispatcher.proofs.ShownLaws.{touches_scene_law}
+use Rattle.dispatcher.proofs.Laws.ShownLaws.{touches_scene_law}
 use Rattle.why_lines.specs.Holding.{HoldKeys, OnlyHolds}
 use Rattle.why_lines.proofs.Keyed.{held_of_device, or_false}
 use Rattle.why_lines.proofs.keys.held_of.Goals as goal

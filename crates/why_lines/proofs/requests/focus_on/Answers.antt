@@ -6,8 +6,8 @@ use Rattle.dispatch_history.specs.Focus.{key_target}
 use Rattle.dispatch_history.specs.History.{clock}
 use Rattle.why_text.specs.Lines.{request_word}
 use Rattle.why_text.specs.Text.{focus_words}
-use Rattle.dispatcher.proofs.Following.{known_so}
-use Rattle.dispatcher.proofs.Standing.{after_of}
+use Rattle.dispatcher.proofs.Made.Following.{known_so}
+use Rattle.dispatcher.proofs.Laws.Standing.{after_of}
 use Rattle.why_lines.specs.Gone.{target_keys, target_line}
 use Rattle.why_lines.specs.Growing.{with_lines}
 use Rattle.why_lines.proofs.Growing.{more_lines, one_line}

@@ -2,7 +2,7 @@ use Rattle.std.proofs.Common.{sym, subst}
 use Rattle.std.proofs.Math.Path.{fun_ext}
 use Rattle.dispatch_history.specs.Step.{scene}
 use Rattle.route_split.specs.Tables.{Stands}
-use Rattle.dispatcher.proofs.ShownLaws.{touches_scene_law}
+use Rattle.dispatcher.proofs.Laws.ShownLaws.{touches_scene_law}
 use Rattle.why_lines.proofs.seen.sight.Goals as goal
 
 pub returns : goal.returns

@@ -10,8 +10,8 @@ use Rattle.dispatcher.specs.Dispatching.{IsAfter}
 use Rattle.route_split.specs.Tables.{holds_at}
 use Rattle.why_text.specs.Lines.{gone_words, snapshot_words}
 use Rattle.why_text.specs.Text.{focus_words, line}
-use Rattle.dispatcher.proofs.Following.{known_so}
-use Rattle.dispatcher.proofs.Standing.{after_of}
+use Rattle.dispatcher.proofs.Made.Following.{known_so}
+use Rattle.dispatcher.proofs.Laws.Standing.{after_of}
 use Rattle.why_lines.specs.Growing.{with_lines}
 use Rattle.why_lines.proofs.Growing.{more_lines, one_line}
 use Rattle.why_lines.proofs.Held.{keys_there}

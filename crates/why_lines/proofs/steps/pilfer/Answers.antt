@@ -5,8 +5,8 @@ use Rattle.dispatch_history.specs.History.{clock}
 use Rattle.dispatch_history.specs.Reply.{pilfer_reply}
 use Rattle.dispatch_history.specs.Step.{scene}
 use Rattle.why_text.specs.Lines.{pilfer_words}
-use Rattle.dispatcher.proofs.Following.{known_so}
-use Rattle.dispatcher.proofs.Standing.{after_of}
+use Rattle.dispatcher.proofs.Made.Following.{known_so}
+use Rattle.dispatcher.proofs.Laws.Standing.{after_of}
 use Rattle.why_lines.proofs.Growing.{one_line}
 use Rattle.why_lines.proofs.Making.{made_now, sends_now}
 use Rattle.why_lines.proofs.Outgoing.{sends}

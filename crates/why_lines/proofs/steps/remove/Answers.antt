@@ -7,8 +7,8 @@ use Rattle.dispatch_history.specs.Queue.{args_of, inbound}
 use Rattle.dispatch_history.specs.Reply.{reply_to}
 use Rattle.why_text.specs.Lines.{removed_words}
 use Rattle.why_text.specs.Text.{focus_words}
-use Rattle.dispatcher.proofs.Following.{known_so}
-use Rattle.dispatcher.proofs.Standing.{after_of}
+use Rattle.dispatcher.proofs.Made.Following.{known_so}
+use Rattle.dispatcher.proofs.Laws.Standing.{after_of}
 use Rattle.why_lines.specs.Growing.{with_lines}
 use Rattle.why_lines.proofs.AllLost.{remove_loses}
 use Rattle.why_lines.proofs.Growing.{one_line}

@@ -8,8 +8,8 @@ use Rattle.dispatch_history.specs.Reply.{is_due}
 use Rattle.dispatcher.specs.DispatchTables.Dues.{due_moment}
 use Rattle.why_text.specs.Lines.{timeout_words}
 use Rattle.why_text.specs.Words.{channels_that}
-use Rattle.dispatcher.proofs.Following.{known_so}
-use Rattle.dispatcher.proofs.Standing.{after_of}
+use Rattle.dispatcher.proofs.Made.Following.{known_so}
+use Rattle.dispatcher.proofs.Laws.Standing.{after_of}
 use Rattle.why_lines.proofs.Making.{made_now, sends_now}
 use Rattle.why_lines.proofs.Ticking.{named_loses, named_words}
 use Rattle.why_lines.proofs.Outgoing.{stands_lawful, sends}

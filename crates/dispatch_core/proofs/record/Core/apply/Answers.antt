@@ -2,7 +2,7 @@ use Rattle.std.proofs.Common.{List, ◌≤◌, ◌++◌, ◌∷◌, [], ap, ◌�
 use Rattle.dispatch_calls.specs.declared.call.Entry.{Entry}
 use Rattle.dispatch_history.specs.Legal.{reply}
 use Rattle.dispatcher.specs.Memory.{IsCalm}
-use Rattle.dispatcher.proofs.Following.{stands_with}
+use Rattle.dispatcher.proofs.Made.Following.{stands_with}
 use Rattle.dispatch_core.specs.Recorded.{effects_of, history_of, IsRecorded, IsSound, AnswersGone}
 use Rattle.dispatch_core.proofs.Recording.{recorded_more, recorded_behind, replied, sound_of, gone_of, room_after, may_count, one_in, pumps_fit}
 use Rattle.dispatch_core.proofs.record.Core.apply.Goals.{in-Windows-2, in-Open-2}

@@ -1,7 +1,7 @@
 use Rattle.std.proofs.Common.{IfOk, sym, subst}
 use Rattle.dispatcher.specs.Answered.{Answers}
 use Rattle.dispatcher.specs.Outcomes.{reply_of}
-use Rattle.dispatcher.proofs.Outcomes.{replied_ok}
+use Rattle.dispatcher.proofs.Made.Outcomes.{replied_ok}
 use Rattle.dispatcher.proofs.dispatcher.Dispatcher.apply.Goals as goal
 
 pub returns-in-Notify-clause-ok : goal.returns-in-Notify-clause-ok

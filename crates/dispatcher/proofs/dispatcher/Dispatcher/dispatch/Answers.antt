@@ -2,11 +2,11 @@
 use Rattle.std.proofs.Common.{is_some, refl, sym, ap, ◌∙◌, subst, arith}
 use Rattle.std.proofs.lemmas.Bool.{true≢false}
 use Rattle.dispatcher.specs.Dispatching.{IsAfter, IsOfHistory}
-use Rattle.dispatcher.proofs.Answered.{may_step}
-use Rattle.dispatcher.proofs.Applying.{raw, seen_same}
-use Rattle.dispatcher.proofs.Oks.{on_err}
-use Rattle.dispatcher.proofs.Reading.{some_copied}
-use Rattle.dispatcher.proofs.Through.{history_through, may_not_come, need_not_wait, nothing_first, some_wait, steps_twice}
+use Rattle.dispatcher.proofs.Made.Answered.{may_step}
+use Rattle.dispatcher.proofs.Made.Applying.{raw, seen_same}
+use Rattle.dispatcher.proofs.Room.Oks.{on_err}
+use Rattle.dispatcher.proofs.Laws.Reading.{some_copied}
+use Rattle.dispatcher.proofs.Made.Through.{history_through, may_not_come, need_not_wait, nothing_first, some_wait, steps_twice}
 use Rattle.dispatcher.proofs.dispatcher.Dispatcher.dispatch.Goals as goal
 
 pub dispatch_at_once-requires-clause-step : goal.dispatch_at_once-requires-clause-step

@@ -1,7 +1,7 @@
 use Rattle.std.proofs.Common.{refl, sym, subst, ap, ◌∙◌}
 use Rattle.dispatcher.specs.Dispatching.{IsAfter}
-use Rattle.dispatcher.proofs.ReadLaws.{reads_channels}
-use Rattle.dispatcher.proofs.Rooms.{stands_raw}
+use Rattle.dispatcher.proofs.Laws.ReadLaws.{reads_channels}
+use Rattle.dispatcher.proofs.Room.Rooms.{stands_raw}
 use Rattle.dispatcher.proofs.dispatcher.Dispatcher.due.Goals as goal
 
 pub returns : goal.returns

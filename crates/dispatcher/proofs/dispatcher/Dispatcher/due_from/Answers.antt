@@ -1,9 +1,9 @@
 use Rattle.std.proofs.Common.{refl, sym, subst}
 use Rattle.dispatcher.specs.AnrTracker.Due.{NoneBelow}
 use Rattle.dispatcher.specs.Dispatching.{IsAfter}
-use Rattle.dispatcher.proofs.NotBefore.{not_before}
-use Rattle.dispatcher.proofs.ReadLaws.{reads_channels}
-use Rattle.dispatcher.proofs.Rooms.{stands_raw}
+use Rattle.dispatcher.proofs.Made.NotBefore.{not_before}
+use Rattle.dispatcher.proofs.Laws.ReadLaws.{reads_channels}
+use Rattle.dispatcher.proofs.Room.Rooms.{stands_raw}
 use Rattle.dispatcher.proofs.dispatcher.Dispatcher.due_from.Goals as goal
 
 pub returns : goal.returns

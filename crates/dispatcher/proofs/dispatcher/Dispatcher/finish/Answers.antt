@@ -1,8 +1,8 @@
 use Rattle.std.proofs.lemmas.Bool.{true≢false}
 use Rattle.dispatch_calls.specs.declared.call.Call.TheVariants.{Finish}
-use Rattle.dispatcher.proofs.Answered.{passed, passed_holds, counted}
-use Rattle.dispatcher.proofs.Applying.{raw}
-use Rattle.dispatcher.proofs.Timely.{timely}
+use Rattle.dispatcher.proofs.Made.Answered.{passed, passed_holds, counted}
+use Rattle.dispatcher.proofs.Made.Applying.{raw}
+use Rattle.dispatcher.proofs.Made.Timely.{timely}
 use Rattle.dispatcher.specs.Outcomes.{reply_of}
 use Rattle.std.proofs.Common.{max, refl, ap, ◌∙◌, sym}
 use Rattle.dispatcher.proofs.dispatcher.Dispatcher.finish.Goals as goal

@@ -1,7 +1,7 @@
 use Rattle.std.proofs.Common.{refl, sym, subst}
 use Rattle.dispatcher.specs.Dispatching.{IsAfter}
-use Rattle.dispatcher.proofs.ReadLaws.{reads_channels}
-use Rattle.dispatcher.proofs.Rooms.{stands_raw}
+use Rattle.dispatcher.proofs.Laws.ReadLaws.{reads_channels}
+use Rattle.dispatcher.proofs.Room.Rooms.{stands_raw}
 use Rattle.dispatcher.proofs.dispatcher.Dispatcher.first_due.Goals as goal
 
 pub returns : goal.returns

@@ -2,9 +2,9 @@ use Rattle.std.proofs.Common.{sym, ◌∙◌, subst}
 use Rattle.dispatch_calls.specs.declared.call.Call.TheVariants.{Receive}
 use Rattle.dispatcher.specs.Dispatching.{StandsFor}
 use Rattle.dispatcher.specs.Tables.{kept}
-use Rattle.dispatcher.proofs.Applying.{may_hand, raw, seen}
-use Rattle.dispatcher.proofs.Replies.{reply_law}
-use Rattle.dispatcher.proofs.Standing.{after_of}
+use Rattle.dispatcher.proofs.Made.Applying.{may_hand, raw, seen}
+use Rattle.dispatcher.proofs.Laws.Replies.{reply_law}
+use Rattle.dispatcher.proofs.Laws.Standing.{after_of}
 use Rattle.dispatcher.proofs.dispatcher.Dispatcher.hand_out.Goals as goal
 
 pub returns-clause-ok : goal.returns-clause-ok

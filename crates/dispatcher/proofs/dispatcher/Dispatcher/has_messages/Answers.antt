@@ -1,7 +1,7 @@
 use Rattle.std.proofs.Common.{not, ap, ◌∙◌}
 use Rattle.dispatch_history.specs.Effect.{stream}
 use Rattle.dispatcher.specs.Access.{gone, is_opened}
-use Rattle.dispatcher.proofs.Reading.{some_left, none_left}
+use Rattle.dispatcher.proofs.Laws.Reading.{some_left, none_left}
 use Rattle.dispatcher.proofs.dispatcher.Dispatcher.has_messages.Goals as goal
 
 pub returns-in-Some : goal.returns-in-Some

@@ -1,7 +1,7 @@
 use Rattle.std.proofs.Common.{sym, ap, ◌∙◌, subst}
 use Rattle.dispatcher.specs.Access.{any_waits}
 use Rattle.dispatcher.specs.Dispatching.{IsAfter}
-use Rattle.dispatcher.proofs.Reading.{waits, some_copied}
+use Rattle.dispatcher.proofs.Laws.Reading.{waits, some_copied}
 use Rattle.dispatcher.proofs.dispatcher.Dispatcher.is_waiting.Goals as goal
 
 pub returns : goal.returns

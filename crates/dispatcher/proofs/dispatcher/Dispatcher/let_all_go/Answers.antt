@@ -7,10 +7,10 @@ use Rattle.dispatch_history.specs.History.{live}
 use Rattle.dispatcher.specs.Access.{gone, anrs_released}
 use Rattle.dispatcher.specs.Dispatching.{IsAfter, StandsFor}
 use Rattle.std.proofs.lemmas.Bool.{true≢false}
-use Rattle.dispatcher.proofs.RoomMade.{release_room}
-use Rattle.dispatcher.proofs.Applying.{seen, raw, bare}
-use Rattle.dispatcher.proofs.Standing.{after_of, stands_but, may_of_all}
-use Rattle.dispatcher.proofs.Releasing.{all_go_stands, stream_gone, others_gone, not_live, is_live}
+use Rattle.dispatcher.proofs.Room.RoomMade.{release_room}
+use Rattle.dispatcher.proofs.Made.Applying.{seen, raw, bare}
+use Rattle.dispatcher.proofs.Laws.Standing.{after_of, stands_but, may_of_all}
+use Rattle.dispatcher.proofs.Made.Releasing.{all_go_stands, stream_gone, others_gone, not_live, is_live}
 use Rattle.dispatcher.proofs.dispatcher.Dispatcher.let_all_go.Goals as goal
 
 pub invariant_of-self : goal.invariant_of-self

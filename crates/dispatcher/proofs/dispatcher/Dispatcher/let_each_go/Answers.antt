@@ -3,9 +3,9 @@ use Rattle.dispatcher.specs.InputChannel.State.{each_released}
 use Rattle.dispatcher.specs.DispatchChannels.Table.{channel_of}
 use Rattle.dispatcher.specs.Access.{gone, anrs_released}
 use Rattle.dispatcher.specs.Dispatching.{IsAfter}
-use Rattle.dispatcher.proofs.RoomMade.{release_room}
-use Rattle.dispatcher.proofs.Applying.{raw, bare}
-use Rattle.dispatcher.proofs.Releasing.{each_go_stands, each_gone, others_gone}
+use Rattle.dispatcher.proofs.Room.RoomMade.{release_room}
+use Rattle.dispatcher.proofs.Made.Applying.{raw, bare}
+use Rattle.dispatcher.proofs.Made.Releasing.{each_go_stands, each_gone, others_gone}
 use Rattle.dispatcher.proofs.dispatcher.Dispatcher.let_each_go.Goals as goal
 
 pub invariant_of-self : goal.invariant_of-self

@@ -2,9 +2,9 @@ use Rattle.std.proofs.Common.{sym, ap, ◌∙◌, subst}
 use Rattle.window_snapshot.specs.Mask.{mask_has}
 use Rattle.dispatcher.specs.Dispatching.{StandsFor}
 use Rattle.dispatch_calls.specs.declared.call.Call.TheVariants.{Receive}
-use Rattle.dispatcher.proofs.Standing.{after_of}
-use Rattle.dispatcher.proofs.Applying.{seen, raw, may_hand}
-use Rattle.dispatcher.proofs.Reading.{next_live, next_gone}
+use Rattle.dispatcher.proofs.Laws.Standing.{after_of}
+use Rattle.dispatcher.proofs.Made.Applying.{seen, raw, may_hand}
+use Rattle.dispatcher.proofs.Laws.Reading.{next_live, next_gone}
 use Rattle.dispatcher.proofs.dispatcher.Dispatcher.next.Goals as goal
 
 pub returns-then-mask_has : goal.returns-then-mask_has

@@ -1,14 +1,14 @@
 use Rattle.std.proofs.lemmas.Bool.{true≢false}
 use Rattle.dispatch_calls.specs.declared.call.Call.TheVariants.{Notify}
 use Rattle.dispatch_calls.specs.declared.reply.Reply.TheVariants.{Taken}
-use Rattle.dispatcher.proofs.Answered.{answers_on, as_promised, counted, history_on, makes}
-use Rattle.dispatcher.proofs.Applying.{seen}
-use Rattle.dispatcher.proofs.Notifying.{accepted_on, refused_on}
+use Rattle.dispatcher.proofs.Made.Answered.{answers_on, as_promised, counted, history_on, makes}
+use Rattle.dispatcher.proofs.Made.Applying.{seen}
+use Rattle.dispatcher.proofs.Made.Notifying.{accepted_on, refused_on}
 use Rattle.dispatcher.specs.Answered.{Answers}
 use Rattle.dispatcher.specs.Dispatching.{IsOfHistory}
 use Rattle.dispatcher.specs.Roomy.{KeepsPromise}
 use Rattle.std.proofs.Common.{◌≤◌, ap, sym, ◌∙◌, subst}
-use Rattle.dispatcher.proofs.Oks.{on_err}
+use Rattle.dispatcher.proofs.Room.Oks.{on_err}
 use Rattle.dispatcher.proofs.dispatcher.Dispatcher.notify.Goals as goal
 
 pub returns-in_ok-accept-in-Ok-clause-ok : goal.returns-in_ok-accept-in-Ok-clause-ok

@@ -1,8 +1,8 @@
 -- A channel that was not opened is not asked of.
 use Rattle.std.proofs.Common.{sym, subst, arith}
 use Rattle.dispatcher.specs.Dispatching.{IsAfter}
-use Rattle.dispatcher.proofs.Applying.{raw}
-use Rattle.dispatcher.proofs.Releasing.{opened_at}
+use Rattle.dispatcher.proofs.Made.Applying.{raw}
+use Rattle.dispatcher.proofs.Made.Releasing.{opened_at}
 use Rattle.dispatcher.proofs.dispatcher.Dispatcher.oldest.Goals as goal
 use Rattle.dispatcher.proofs.dispatcher.Dispatcher.oldest.Goals.{else-channel-gt0-via-then-channel-gt0+else-channel-opened, else-channel-gt0-via-else-channel-gt0}
 

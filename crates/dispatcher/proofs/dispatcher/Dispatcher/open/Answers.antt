@@ -1,9 +1,9 @@
 use Rattle.dispatch_calls.specs.declared.call.Call.TheVariants.{Open}
-use Rattle.dispatcher.proofs.Answered.{passed, passed_holds, same_seen, same_holds}
-use Rattle.dispatcher.proofs.Applying.{raw}
-use Rattle.dispatcher.proofs.Timely.{timely}
+use Rattle.dispatcher.proofs.Made.Answered.{passed, passed_holds, same_seen, same_holds}
+use Rattle.dispatcher.proofs.Made.Applying.{raw}
+use Rattle.dispatcher.proofs.Made.Timely.{timely}
 use Rattle.std.proofs.Common.{max, refl, ap, ◌∙◌}
-use Rattle.dispatcher.proofs.Oks.{on_err}
+use Rattle.dispatcher.proofs.Room.Oks.{on_err}
 use Rattle.dispatcher.proofs.dispatcher.Dispatcher.open.Goals as goal
 
 pub open-requires : goal.open-requires

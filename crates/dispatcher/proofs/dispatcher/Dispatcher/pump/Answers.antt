@@ -4,10 +4,10 @@ use Rattle.dispatch_calls.specs.declared.call.Call.TheVariants.{Pump}
 use Rattle.dispatch_calls.specs.declared.reply.Reply.TheVariants.{Dispatched}
 use Rattle.dispatcher.specs.Dispatching.{IsAfter, IsOfHistory}
 use Rattle.dispatcher.specs.Outcomes.{reply_of}
-use Rattle.dispatcher.proofs.Answered.{answers_if, answers_on, counted, history_if, history_on, makes, may_step, not_idle, stays_if}
-use Rattle.dispatcher.proofs.Applying.{raw, seen_same}
-use Rattle.dispatcher.proofs.Oks.{if_there, on_err}
-use Rattle.dispatcher.proofs.Reading.{some_copied}
+use Rattle.dispatcher.proofs.Made.Answered.{answers_if, answers_on, counted, history_if, history_on, makes, may_step, not_idle, stays_if}
+use Rattle.dispatcher.proofs.Made.Applying.{raw, seen_same}
+use Rattle.dispatcher.proofs.Room.Oks.{if_there, on_err}
+use Rattle.dispatcher.proofs.Laws.Reading.{some_copied}
 use Rattle.dispatcher.proofs.dispatcher.Dispatcher.pump.Goals as goal
 
 pub idle-requires-clause-step : goal.idle-requires-clause-step

@@ -4,9 +4,9 @@ use Rattle.window_snapshot.specs.Mask.{mask_has}
 use Rattle.window_snapshot.specs.Named.{is_shown_on}
 use Rattle.dispatch_history.specs.Step.{reach}
 use Rattle.dispatcher.specs.Dispatching.{Dispatching, IsAfter}
-use Rattle.dispatcher.proofs.Motioning.{reaches}
-use Rattle.dispatcher.proofs.Rooms.{stands_raw}
-use Rattle.dispatcher.proofs.Stepping.{sees_law}
+use Rattle.dispatcher.proofs.Rounds.Motioning.{reaches}
+use Rattle.dispatcher.proofs.Room.Rooms.{stands_raw}
+use Rattle.dispatcher.proofs.Laws.Stepping.{sees_law}
 use Rattle.dispatcher.proofs.dispatcher.Dispatcher.reach.Goals as goal
 
 pub returns : goal.returns

@@ -1,6 +1,6 @@
 use Rattle.std.proofs.lemmas.Bool.{true≢false}
 use Rattle.dispatch_calls.specs.declared.call.Call.TheVariants.{Receive}
-use Rattle.dispatcher.proofs.Answered.{counted, handed, history_on, no_promise, steps_on}
+use Rattle.dispatcher.proofs.Made.Answered.{counted, handed, history_on, no_promise, steps_on}
 use Rattle.std.proofs.Common.{ap, sym}
 use Rattle.dispatcher.proofs.dispatcher.Dispatcher.receive.Goals as goal
 

@@ -5,11 +5,11 @@ use Rattle.dispatch_history.specs.Effect.{past_of}
 use Rattle.dispatch_history.specs.History.{received}
 use Rattle.dispatcher.specs.Access.{gone, anrs_released}
 use Rattle.dispatcher.specs.Dispatching.{IsAfter, StandsFor}
-use Rattle.dispatcher.proofs.RoomMade.{release_room}
-use Rattle.dispatcher.proofs.Applying.{seen, raw, bare}
-use Rattle.dispatcher.proofs.Standing.{after_of, stands_but, may_of_received}
-use Rattle.dispatcher.proofs.Rooms.{channel_bare}
-use Rattle.dispatcher.proofs.Releasing.{opened_at, release_stands, received_gone, live_gone, others_gone}
+use Rattle.dispatcher.proofs.Room.RoomMade.{release_room}
+use Rattle.dispatcher.proofs.Made.Applying.{seen, raw, bare}
+use Rattle.dispatcher.proofs.Laws.Standing.{after_of, stands_but, may_of_received}
+use Rattle.dispatcher.proofs.Room.Rooms.{channel_bare}
+use Rattle.dispatcher.proofs.Made.Releasing.{opened_at, release_stands, received_gone, live_gone, others_gone}
 use Rattle.dispatcher.proofs.dispatcher.Dispatcher.release.Goals as goal
 use Rattle.dispatcher.proofs.dispatcher.Dispatcher.release.Goals.{else-channel-gt0-via-then-channel-gt0+else-channel-opened, else-channel-gt0-via-else-channel-gt0}
 

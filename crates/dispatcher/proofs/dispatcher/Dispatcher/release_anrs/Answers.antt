@@ -3,9 +3,9 @@ use Rattle.dispatcher.specs.DispatchChannels.Table.{Table, channel_of, but_for_r
 use Rattle.dispatcher.specs.Access.{gone}
 use Rattle.dispatcher.specs.Dispatching.{IsAfter, StandsFor}
 use Rattle.dispatcher.specs.Roomy.{IsRoomy}
-use Rattle.dispatcher.proofs.Applying.{seen, raw, bare}
-use Rattle.dispatcher.proofs.Standing.{after_of, stands_same}
-use Rattle.dispatcher.proofs.Releasing.{anrs_go}
+use Rattle.dispatcher.proofs.Made.Applying.{seen, raw, bare}
+use Rattle.dispatcher.proofs.Laws.Standing.{after_of, stands_same}
+use Rattle.dispatcher.proofs.Made.Releasing.{anrs_go}
 use Rattle.dispatcher.proofs.dispatcher.Dispatcher.release_anrs.Goals as goal
 
 pub invariant_of-self : goal.invariant_of-self

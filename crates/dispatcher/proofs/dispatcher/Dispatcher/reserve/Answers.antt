@@ -2,8 +2,8 @@
 use Rattle.std.proofs.Common.{sym, ap, subst}
 use Rattle.dispatcher.specs.DispatchChannels.Table.{channel_of}
 use Rattle.dispatcher.specs.Dispatching.{IsAfter, StandsFor}
-use Rattle.dispatcher.proofs.Standing.{after_of, stands_same}
-use Rattle.dispatcher.proofs.Applying.{seen, reserved_stands}
+use Rattle.dispatcher.proofs.Laws.Standing.{after_of, stands_same}
+use Rattle.dispatcher.proofs.Made.Applying.{seen, reserved_stands}
 use Rattle.dispatcher.proofs.dispatcher.Dispatcher.reserve.Goals as goal
 
 pub invariant_of-self : goal.invariant_of-self

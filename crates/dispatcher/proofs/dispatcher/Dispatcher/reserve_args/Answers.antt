@@ -1,8 +1,8 @@
 -- With more room it stands for the same history.
 use Rattle.std.proofs.Common.{refl, sym, subst}
 use Rattle.dispatcher.specs.Dispatching.{StandsFor}
-use Rattle.dispatcher.proofs.Standing.{after_of, stands_same}
-use Rattle.dispatcher.proofs.Applying.{seen, args_stand, args_promise}
+use Rattle.dispatcher.proofs.Laws.Standing.{after_of, stands_same}
+use Rattle.dispatcher.proofs.Made.Applying.{seen, args_stand, args_promise}
 use Rattle.dispatcher.proofs.dispatcher.Dispatcher.reserve_args.Goals as goal
 
 pub invariant_of-self : goal.invariant_of-self

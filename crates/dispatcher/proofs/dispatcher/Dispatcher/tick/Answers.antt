@@ -1,12 +1,12 @@
 use Rattle.std.proofs.lemmas.Bool.{true≢false}
 use Rattle.dispatch_calls.specs.declared.call.Call.TheVariants.{Tick}
-use Rattle.dispatcher.proofs.Answered.{passed, passed_holds, same_seen, same_holds, counted}
-use Rattle.dispatcher.proofs.Applying.{raw}
-use Rattle.dispatcher.proofs.Stepped.{calm_tick}
-use Rattle.dispatcher.proofs.Timely.{timely}
+use Rattle.dispatcher.proofs.Made.Answered.{passed, passed_holds, same_seen, same_holds, counted}
+use Rattle.dispatcher.proofs.Made.Applying.{raw}
+use Rattle.dispatcher.proofs.Laws.Stepped.{calm_tick}
+use Rattle.dispatcher.proofs.Made.Timely.{timely}
 use Rattle.dispatcher.specs.Dispatching.{IsAfter}
 use Rattle.std.proofs.Common.{max, refl, ap, sym, subst, ◌∙◌}
-use Rattle.dispatcher.proofs.Oks.{on_err}
+use Rattle.dispatcher.proofs.Room.Oks.{on_err}
 use Rattle.dispatcher.proofs.dispatcher.Dispatcher.tick.Goals as goal
 
 pub tick-requires : goal.tick-requires

@@ -1,5 +1,5 @@
 use Rattle.dispatcher.specs.Dispatching.{kept}
-use Rattle.dispatcher.proofs.ReadLaws.{reads_touches}
+use Rattle.dispatcher.proofs.Laws.ReadLaws.{reads_touches}
 use Rattle.dispatcher.proofs.dispatcher.Dispatcher.touches.Goals as goal
 
 pub returns-clause-reads : goal.returns-clause-reads

@@ -1,9 +1,9 @@
 use Rattle.std.proofs.Common.{refl, sym, ◌∙◌, subst, arith}
 use Rattle.dispatcher.proofs.DispatchTables.Ables.{live_number}
 use Rattle.dispatcher.specs.Dispatching.{IsAfter}
-use Rattle.dispatcher.proofs.ReadLaws.{reads_channels}
-use Rattle.dispatcher.proofs.Rooms.{stands_raw}
-use Rattle.dispatcher.proofs.Unfinished.{none_of}
+use Rattle.dispatcher.proofs.Laws.ReadLaws.{reads_channels}
+use Rattle.dispatcher.proofs.Room.Rooms.{stands_raw}
+use Rattle.dispatcher.proofs.Made.Unfinished.{none_of}
 use Rattle.dispatcher.proofs.dispatcher.Dispatcher.unfinished.Goals as goal
 
 pub returns-clause-live : goal.returns-clause-live

@@ -2,8 +2,8 @@ use Rattle.std.proofs.Common.{◌-◌, ap, ◌∙◌}
 use Rattle.window_snapshot.specs.Origins.{corner}
 use Rattle.dispatcher.specs.DispatchChannels.Table.{opened}
 use Rattle.dispatcher.specs.Shown.{origin_at}
-use Rattle.dispatcher.proofs.Starting.{knows_first}
-use Rattle.dispatcher.proofs.Showing.{same_default}
+use Rattle.dispatcher.proofs.Laws.Starting.{knows_first}
+use Rattle.dispatcher.proofs.Laws.Showing.{same_default}
 use Rattle.dispatcher.proofs.tables.Tables.new.Goals as goal
 
 pub returns-clause-start : goal.returns-clause-start

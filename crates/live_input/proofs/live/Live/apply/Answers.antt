@@ -1,7 +1,7 @@
 -- A call that is made leaves what is kept beside the dispatcher.
 use Rattle.std.proofs.Common.{◌+◌, ◌≤◌, sym, ap, ◌∙◌, subst}
 use Rattle.dispatch_history.specs.Legal.{answered}
-use Rattle.dispatcher.proofs.Following.{stands_with}
+use Rattle.dispatcher.proofs.Made.Following.{stands_with}
 use Rattle.dispatcher.specs.Dispatching.{IsAfter}
 use Rattle.dispatcher.specs.Queue.{Queue}
 use Rattle.dispatcher.specs.Queueing.{args_in}

@@ -5,7 +5,7 @@ use Rattle.dispatch_calls.specs.declared.call.Call.{Call}
 use Rattle.dispatch_calls.specs.declared.call.Call.TheVariants.{Pump}
 use Rattle.dispatch_history.specs.Legal.{answered}
 use Rattle.dispatch_history.specs.Ordered.{extend}
-use Rattle.dispatcher.proofs.Standing.{after_of}
+use Rattle.dispatcher.proofs.Laws.Standing.{after_of}
 use Rattle.dispatcher.specs.Queueing.{args_in, is_input, is_pump}
 use Rattle.live_input.specs.Room.{PumpsOver}
 use Rattle.live_input.proofs.Roomy.{busy, counted, long, one_less, plus_none, pumps_over_more, waiting_call}

@@ -1,7 +1,7 @@
 -- Everything left is done, one call after another.
 use Rattle.std.proofs.Common.{sym, ap, ◌∙◌, subst}
 use Rattle.dispatch_history.specs.Ordered.{extend}
-use Rattle.dispatcher.proofs.Standing.{after_of}
+use Rattle.dispatcher.proofs.Laws.Standing.{after_of}
 use Rattle.live_input.specs.Seats.{IsHeld, is_held, seat_of}
 use Rattle.live_input.specs.Settling.{next_left}
 use Rattle.live_input.specs.Standing.{LiveIs}

@@ -1,6 +1,6 @@
 -- The dispatcher has both moments.
 use Rattle.std.proofs.Common.{◌≡◌, ◌||◌, Some, cond, sym, ap, ap₂, ◌∙◌, subst}
-use Rattle.dispatcher.proofs.Standing.{after_of}
+use Rattle.dispatcher.proofs.Laws.Standing.{after_of}
 use Rattle.dispatcher.specs.Access.{any_waits, next_repeat}
 use Rattle.live_input.specs.Settling.{sooner, timeout, waits}
 use Rattle.live_input.specs.Standing.{LiveIs}

@@ -1,7 +1,7 @@
 -- What must still be handed in is, one after another.
 use Rattle.std.proofs.lemmas.Bool.{true≢false}
 use Rattle.std.proofs.Common.{◌≡◌, ◌+◌, ◌≤◌, ◌<◌, ◌^◌, ◌-◌, arith, length, drop, slice_get, Some, refl, sym, ap, ◌∙◌, subst}
-use Rattle.dispatcher.proofs.Standing.{after_of}
+use Rattle.dispatcher.proofs.Laws.Standing.{after_of}
 use Rattle.live_input.proofs.Roomy.{counted, hands_over_more}
 use Rattle.live_input.specs.Giving.{HandedInPart}
 use Rattle.live_input.specs.Room.{HandsOver}

@@ -3,7 +3,7 @@ use Rattle.std.proofs.Common.{sym, ap, ◌∙◌, subst}
 use Rattle.std.proofs.lemmas.Bool.{and_parts}
 use Rattle.window_snapshot.specs.Mask.{is_channel}
 use Rattle.route_split.specs.Tables.{holds_at}
-use Rattle.dispatcher.proofs.Standing.{after_of}
+use Rattle.dispatcher.proofs.Laws.Standing.{after_of}
 use Rattle.live_input.specs.Seats.{is_of, seat_of}
 use Rattle.live_input.specs.Standing.{LiveIs}
 use Rattle.live_input.proofs.live.Live.holds.Goals as goal

@@ -2,7 +2,7 @@
 use Rattle.std.proofs.Common.{refl, sym, ◌∙◌, subst}
 use Rattle.std.proofs.lemmas.Bool.{and_parts}
 use Rattle.window_snapshot.specs.Mask.{is_channel}
-use Rattle.dispatcher.proofs.Standing.{after_of}
+use Rattle.dispatcher.proofs.Laws.Standing.{after_of}
 use Rattle.live_input.specs.Seats.{is_of, seat_of}
 use Rattle.live_input.specs.Standing.{LiveIs}
 use Rattle.live_input.proofs.Asked.{responds_by}

@@ -3,7 +3,7 @@ use Rattle.std.proofs.Common.{◌≡◌, ◌+◌, ◌≤◌, refl, sym, ap, ◌�
 use Rattle.std.proofs.lemmas.Bool.{true≢false}
 use Rattle.dispatch_calls.specs.declared.call.Call.TheVariants.{Notify}
 use Rattle.dispatch_history.specs.Legal.{answered}
-use Rattle.dispatcher.proofs.Following.{stands_with}
+use Rattle.dispatcher.proofs.Made.Following.{stands_with}
 use Rattle.dispatcher.specs.Dispatching.{IsAfter}
 use Rattle.dispatcher.specs.Outcomes.{reply_of}
 use Rattle.live_input.specs.Answers.{is_taken}

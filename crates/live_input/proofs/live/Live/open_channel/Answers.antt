@@ -4,8 +4,8 @@ use Rattle.dispatch_history.specs.Effect.{past_of, stream}
 use Rattle.dispatch_calls.specs.declared.call.Call.TheVariants.{Open}
 use Rattle.dispatch_history.specs.History.{opened}
 use Rattle.dispatch_history.specs.Legal.{answered}
-use Rattle.dispatcher.proofs.Standing.{after_of}
-use Rattle.dispatcher.proofs.Following.{stands_with}
+use Rattle.dispatcher.proofs.Laws.Standing.{after_of}
+use Rattle.dispatcher.proofs.Made.Following.{stands_with}
 use Rattle.live_input.specs.Opening.{opening}
 use Rattle.live_input.specs.Standing.{LiveIs}
 use Rattle.live_input.specs.State.{LiveState}

@@ -1,7 +1,7 @@
 -- What is requested is kept.
 use Rattle.std.proofs.Common.{refl, sym, ap, ◌∙◌, subst, arith}
 use Rattle.dispatch_calls.specs.declared.call.Call.TheVariants.{FocusOn}
-use Rattle.dispatcher.proofs.Following.{stands_with}
+use Rattle.dispatcher.proofs.Made.Following.{stands_with}
 use Rattle.live_input.specs.Standing.{IsOfSome, LiveIs}
 use Rattle.live_input.specs.State.{LiveState}
 use Rattle.live_input.proofs.Released.{release_same}

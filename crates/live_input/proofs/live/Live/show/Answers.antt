@@ -1,7 +1,7 @@
 -- The windows that are shown are kept.
 use Rattle.std.proofs.Common.{refl, sym, ap, subst}
 use Rattle.dispatch_calls.specs.declared.call.Call.TheVariants.{Windows}
-use Rattle.dispatcher.proofs.Following.{stands_with}
+use Rattle.dispatcher.proofs.Made.Following.{stands_with}
 use Rattle.live_input.specs.Standing.{AreOfHeld, LiveIs}
 use Rattle.live_input.specs.State.{LiveState}
 use Rattle.live_input.proofs.Released.{release_same}

@@ -3,7 +3,7 @@ use Rattle.std.proofs.Common.{◌≡◌, ◌+◌, ◌∙◌, refl, sym, subst, a
 use Rattle.dispatch_calls.specs.declared.call.Call.TheVariants.{Pump}
 use Rattle.dispatch_history.specs.Effect.{past_of}
 use Rattle.dispatch_history.specs.Ordered.{scripted}
-use Rattle.dispatcher.proofs.Following.{known_so}
+use Rattle.dispatcher.proofs.Made.Following.{known_so}
 use Rattle.schedule.specs.More.{ComesTo}
 use Rattle.schedule.specs.State.{HasWith, ScheduleState}
 use Rattle.schedule.proofs.Caused.{applies_silent}

@@ -3,7 +3,7 @@ use Rattle.std.proofs.Common.{refl, sym, subst}
 use Rattle.schedule.specs.State.{HasWith, ScheduleState}
 use Rattle.schedule.proofs.Stepping.{has_received}
 use Rattle.dispatch_calls.specs.declared.call.Call.TheVariants.{Receive}
-use Rattle.dispatcher.proofs.Following.{known_so}
+use Rattle.dispatcher.proofs.Made.Following.{known_so}
 use Rattle.schedule.specs.More.{ComesTo}
 use Rattle.schedule.proofs.More.{one_more}
 use Rattle.schedule.proofs.schedule.Schedule.receive_next.Goals as goal

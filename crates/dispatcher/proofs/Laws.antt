@@ -1,0 +1,24 @@
+-- What the tables say of a history, after any step.
+pub mod QueueLaws
+pub mod ShownLaws
+pub mod Pointed
+pub mod Inputs
+pub mod Knowing
+pub mod Answering
+pub mod Starting
+pub mod Listing
+pub mod Replies
+pub mod NoOpLaws
+pub mod Slices
+pub mod OwnerLaws
+pub mod Refocusing
+pub mod RoomLaws
+pub mod Stepping
+pub mod OpenLaws
+pub mod ReadLaws
+pub mod Examples
+pub mod Standing
+pub mod Showing
+pub mod Reading
+pub mod Stepped
+pub mod Gone
