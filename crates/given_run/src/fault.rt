@@ -7,8 +7,7 @@ use std::alloc::AllocError;
 /// Why an order cannot be made.
 #[derive(Clone, Copy, Debug, PartialEq, Eq)]
 pub enum Fault {
-    /// A line asks for args or for a step that the plan does not have: the first such one, which has so many lines
-    /// before it.
+    /// The first line that asks for args or for a step when none is left. This many lines come before it.
     NoStep { before: usize },
 
     /// Memory ran out.

@@ -13,7 +13,7 @@ use std::marker::Model;
 /// How many lanes a byte can name.
 const LANES: usize = 256;
 
-/// For each lane the place from which its next step is looked for.
+/// For each lane, the index from which the search for its next step begins.
 #[derive(Drop)]
 pub(crate) struct Lanes {
     places: Vec<usize>,
@@ -29,14 +29,14 @@ impl Model for Lanes {
     ghost invariant = { λ l. length l.places.items ≡ 256 };
 }
 
-/// So many zeros.
+/// A list of this many zeros.
 fn zeros(alloc: Global, count: usize) -> Result<Vec<usize>, AllocError>
     ensures { IfOk result (λ v. v.items ≡ replicate count 0) }
 {
     vec![in alloc; 0; count]
 }
 
-/// The place of the next step of a lane from a place on.
+/// The index of the next step of a lane, searched from an index on.
 fn next_place(steps: &[Step], lane: u8, from: usize) -> Option<usize>
     ensures { Finds steps.now lane from result }
 {
@@ -51,7 +51,7 @@ fn next_place(steps: &[Step], lane: u8, from: usize) -> Option<usize>
 }
 
 impl Lanes {
-    /// No step is made.
+    /// The lanes before any step is made.
     pub(crate) fn new(alloc: Global) -> Result<Lanes, AllocError>
         ensures { (steps : List ScriptStep) → IfOk result (IsLeft steps steps) }
     {

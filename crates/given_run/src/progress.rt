@@ -21,7 +21,7 @@ use std::alloc::{AllocError, Global};
 use std::marker::Model;
 use stream_text::{Order, OrderLine};
 
-/// A run with what is left of its plan.
+/// A run, and how much of its plan it used.
 #[derive(Drop)]
 pub(crate) struct Progress {
     pub(crate) run: Schedule,
@@ -39,7 +39,7 @@ impl Model for Progress {
 }
 
 impl Progress {
-    /// The channels are opened, and no line was followed.
+    /// A run whose channels are open, and which followed no line yet.
     pub(crate) fn new(alloc: Global, plan: &Plan) -> Result<Progress, AllocError>
         requires { IsRun plan.now }
         ensures { (cooked : List Cooked) → IfOk result (Comes (whole_plan plan.now cooked) 0
@@ -67,7 +67,7 @@ impl Progress {
         self.run.step(call, next)
     }
 
-    /// The owner of a channel takes its next message.
+    /// The owner of a channel receives its next message.
     fn receive(&mut self, channel: u32) -> Result<(), AllocError>
         ensures { (plan : PlanView) (n : ℕ) (es : List Effect) (cs : List CookedView) (ss : List ScriptStep)
             → Comes plan n es cs ss self.old
@@ -111,7 +111,7 @@ impl Progress {
         Ok(true)
     }
 
-    /// Follows a line; false if its step does not exist.
+    /// Follows a line. Returns false if its args or its step do not exist.
     pub(crate) fn line(
         &mut self,
         plan: &Plan,
@@ -136,7 +136,7 @@ impl Progress {
         Ok(true)
     }
 
-    /// Follows the line at an index of an order; false if its step does not exist.
+    /// Follows the line at an index of an order. Returns false if its args or its step do not exist.
     pub(crate) fn line_at(
         &mut self,
         plan: &Plan,

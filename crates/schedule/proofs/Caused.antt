@@ -37,7 +37,7 @@ causes_stay Causes ds c answer es =
 pub applies_sent : (call : Call) (es : List Effect) (ds old new : List ℕ) (d : Dispatching) → ExplainsAfter call es ds old new d → Applies call es ds (Some old) (Some new) d
 applies_sent call es ds old new d t = record { answer = t.answer; stands = t.stands; causes = ap (λ text. Some text) t.text_is }
 
--- a call of a run that tells no causes
+-- a call of a run that writes no causes
 pub applies_alone : (call : Call) (es : List Effect) (ds : List ℕ) (d : Dispatching) → (answer : Reply) × IsAfter (step ds call answer es) d
     → Applies call es ds None None d
 applies_alone call es ds d there = record { answer = there.0; stands = there.1; causes = refl }

@@ -9,7 +9,7 @@ use Rattle.schedule.specs.Printing.{Prints, WithFront}
 use Rattle.schedule.specs.State.{ScheduleState}
 use Rattle.schedule.proofs.Counting.{opened_bounds}
 
--- the lines that are taken out are those of what was let go
+-- the lines that are taken out are those of what was released
 pub lines_taken : {plan : Plan} {es : List Effect} {s : ScheduleState} (c : ℕ) (lines : List ℕ) → Prints plan es c s
     → is_opened es c ≡ true → c ≤ length plan.channels → (1 ≤ c → lines ≡ lines_at s.lines c) → lines ≡ lines_first es c (gone s.dispatcher c)
 lines_taken {es = es} c lines r there_is within taken =

@@ -34,7 +34,7 @@ names_next (x ∷ xs) n =
     ap (λ ls. anr_line x.clock x.channel x.seq ++ ls) (names_next xs n)
     ∙ sym (append_assoc (anr_line x.clock x.channel x.seq) (anr_lines xs) (anr_line n.clock n.channel n.seq))
 
--- one naming more
+-- one more ANR
 pub anr_more : (text before now : List ℕ) (ns : List Anr) (i : ℕ) (n : Anr) → i < length ns → n ≡ get_or ns i n
     → before ≡ text ++ anr_lines (take i ns) → now ≡ before ++ anr_line n.clock n.channel n.seq → now ≡ text ++ anr_lines (take (i + 1) ns)
 anr_more text before now ns i n within is so_far one =

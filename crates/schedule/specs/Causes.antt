@@ -24,7 +24,7 @@ and_more more text = option_map (λ t. t ++ more) text
 abbrev pub sent_of : (displays : List ℕ) → Call → Reply → List Effect → List ℕ
 sent_of displays call answer es = step_text displays (effect_of displays call answer (args_of call answer (inbound (past_of es))) es) es
 
--- A call is answered: the dispatcher is as after one step more, and where there is a text of causes, just that of the step is put behind it.
+-- A call is answered: the dispatcher is as after one more step, and a text of causes, if there is one, grows by exactly the text of the step.
 pub record Applies (call : Call) (es : List Effect) (displays : List ℕ) (old new : Option (List ℕ)) (d : Dispatching) : Type 0 where
   pub answer : Reply
   pub stands : IsAfter (step displays call answer es) d

@@ -18,17 +18,17 @@ abbrev pub dues_of : Plan → List Effect → List Candidate
 dues_of plan es =
     all_finishes (past_of es) 1 plan.channels ++ due_tick (first_due es) ++ due_repeat (length (inbound (past_of es)) == 0) (repeat_due es)
 
--- a moment is before that of what is due, if anything is
+-- a time is before that of what is due, if anything is
 abbrev pub is_before : ℕ → Option Candidate → Bool
 is_before t None = true
 is_before t (Some c) = nat_lt t c.moment
 
--- something is due at a moment or before it
+-- something is due at or before a time
 abbrev pub is_due_by : Option Candidate → ℕ → Bool
 is_due_by None t = false
 is_due_by (Some c) t = nat_le c.moment t
 
--- one round of what is due up to a moment was done, or nothing is due and nothing was done
+-- one round of what is due up to a time was made, or nothing is due and nothing was done
 abbrev pub Advances : Lines → Plan → ℕ → List Effect → ScheduleState → ScheduleState → Bool → Type 0
 Advances how plan until es old new false = (up_to until (soonest (fore plan es)) ≡ None) × (new ≡ old)
 Advances how plan until es old new true =
@@ -40,7 +40,7 @@ abbrev pub next_finishes : List Effect → ℕ → List ChannelOf → Option Can
 next_finishes es c [] best = best
 next_finishes es c (p ∷ ps) best = next_finishes es (c + 1) ps (sooner_with best (next_finish es c p))
 
--- what is due, if anything is, is not due before a moment
+-- what is due, if anything is, is not due before a time
 abbrev pub NotBefore : ℕ → Option Candidate → Type 0
 NotBefore t None = Unit {0}
 NotBefore t (Some c) = t ≤ c.moment
@@ -53,15 +53,15 @@ NoneOverdue ps es = NotBefore (clock (past_of es)) (next_finishes es 1 ps None)
 abbrev pub tick_of : Due → Candidate
 tick_of d = record { moment = d.moment; calls = Tick d.moment ∷ [] }
 
--- the repeat at a moment
+-- the repeat at a time
 abbrev pub repeat_at : ℕ → Candidate
 repeat_at t = record { moment = t; calls = Pump t ∷ [] }
 
--- a step, where it comes before what is due
+-- a step, if it comes before what is due
 abbrev pub kept_first : Option Candidate → Option Step → Option Step
 kept_first due None = None
 kept_first due (Some s) = if is_before (moment_of s.call) due then Some s else None
 
--- the next of some steps, where it comes before what is due
+-- the next of some steps, if it comes before what is due
 abbrev pub first_step : List Step → ℕ → Option Candidate → Option Step
 first_step steps next due = kept_first due (slice_get steps next)

@@ -7,7 +7,7 @@ use Rattle.schedule.specs.declared.due.Due.{Due}
 use Rattle.schedule.specs.declared.due.What.{What}
 use Rattle.schedule.specs.declared.due.What.TheVariants.{Finish, Tick, Repeat}
 
--- the call that is made at a moment
+-- the call that is made at a time
 abbrev pub call_of : ℕ → What → Call
 call_of t (Finish channel seq) = calls.Finish t channel seq
 call_of t Tick = calls.Tick t

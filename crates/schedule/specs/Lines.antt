@@ -7,7 +7,7 @@ use Rattle.stream_text.specs.Spelling.{message_lines}
 use Rattle.schedule.specs.declared.keeping.Lines.{Lines}
 use Rattle.schedule.specs.declared.keeping.Lines.TheVariants.{Kept, Counted, Causes}
 
--- how many texts a run of so many channels has: one for each channel, or none
+-- how many texts a run with this many channels has: one for each channel, or none
 abbrev pub texts : Lines → ℕ → ℕ
 texts Kept n = n
 texts Counted n = 0

@@ -17,32 +17,37 @@ use Rattle.schedule.specs.State.{ScheduleState, HasWith, ReadyWith, counted}
 abbrev pub GoesOn : (old new : ScheduleState) → Type 0
 GoesOn old new = (es : List Effect) → ComesTo es old.dispatcher → ComesTo es new.dispatcher
 
+-- The run goes on, and the latest moment of args stays.
+pub record GoesOnAt (old new : ScheduleState) : Type 0 where
+  pub on : GoesOn old new
+  pub latest : new.latest ≡ old.latest
+
 -- no channel releases a message
 abbrev pub ReleasesNone : (old new : ScheduleState) → Type 0
 ReleasesNone old new = (c : ℕ) → 1 ≤ c → gone new.dispatcher c ≡ gone old.dispatcher c
 
--- where it is done, the run is as after the same effects
+-- if it succeeds, the run is as after the same effects
 abbrev pub Stays : {A E : Type 0} → Result A E → (old new : ScheduleState) → Type 0
 Stays result old new = (how : Lines) (plan : Plan) (es : List Effect) → HasWith how plan es old → OnOk result (HasWith how plan es new)
 
--- where it is done, the run has this call more
+-- if it succeeds, the run has one more call, this one
 abbrev pub Makes : {A E : Type 0} → Result A E → Call → (old new : ScheduleState) → Type 0
 Makes result call old new =
     (how : Lines) (plan : Plan) (es : List Effect) → HasWith how plan es old → OnOk result (HasWith how plan (answered plan.displays call es) new)
 
--- where it is done, the run has these two calls more
+-- if it succeeds, the run has two more calls, these
 abbrev pub MakesTwo : {A E : Type 0} → Result A E → (first second : Call) → (old new : ScheduleState) → Type 0
 MakesTwo result first second old new =
     (how : Lines) (plan : Plan) (es : List Effect) → HasWith how plan es old
     → OnOk result (HasWith how plan (answered plan.displays second (answered plan.displays first es)) new)
 
--- where it is done, the run has this call more, which is no receive, and so many steps of scripts were made with it
+-- if it succeeds, the run has one more call, this one, which is no receive, and `next` steps of scripts were made with it
 abbrev pub MakesWith : {A E : Type 0} → Result A E → Call → (next : ℕ) → (old new : ScheduleState) → Type 0
 MakesWith result call next old new =
     (how : Lines) (plan : Plan) (es : List Effect) → HasWith how plan es old → is_receiving call ≡ false → next ≡ is_scripted call + scripted (past_of es)
     → OnOk result (HasWith how plan (answered plan.displays call es) new)
 
--- where it is done, the owner of a channel has received all that was published to it
+-- if it succeeds, the owner of a channel has received everything that was published to it
 abbrev pub Receives : {A E : Type 0} → Result A E → (channel : ℕ) → (old new : ScheduleState) → Type 0
 Receives result channel old new =
     (how : Lines) (plan : Plan) (es : List Effect) → HasWith how plan es old → OnOk result (HasWith how plan (extend plan.displays es (receives_of es channel)) new)
@@ -63,6 +68,11 @@ CountsNoFewer result old new = OnOk result (old.calls ≤ new.calls)
 -- more calls are counted, up to the greatest number
 abbrev pub CountsMore : (old new : ScheduleState) → Type 0
 CountsMore old new = old.calls < 2 ^ 64 - 1 → old.calls < new.calls
+
+-- No channel releases a message, the run goes on, and the latest moment of args stays.
+pub record KeepsMessages (old new : ScheduleState) : Type 0 where
+  pub gone : ReleasesNone old new
+  pub more : GoesOnAt old new
 
 -- where it is done, all messages that channels were sent are released and counted
 abbrev pub CountsAll : {A E : Type 0} → Result A E → List Effect → (new : ScheduleState) → Type 0

@@ -5,7 +5,7 @@ use Rattle.dispatch_history.specs.Effect.{Effect}
 use Rattle.dispatch_history.specs.Ordered.{extend}
 use Rattle.dispatcher.specs.Dispatching.{Dispatching, IsAfter}
 
--- It is as after these effects with those of some calls more: nothing that was done is lost.
+-- The dispatcher is as after these effects and those of some more calls: nothing that was done is lost.
 pub record ComesTo (es : List Effect) (d : Dispatching) : Type 0 where
   pub calls : List Call
   pub stands : IsAfter (extend d.displays es calls) d

@@ -25,7 +25,7 @@ finish_at c after p = record { moment = p.1 + after; calls = Finish (p.1 + after
 abbrev pub oldest_pair : List Effect → ℕ → Option (ℕ × ℕ)
 oldest_pair es c = option_map {U = ℕ × ℕ} (λ m. (m.seq, delivery es c m.seq)) (oldest es c)
 
--- the next finish of a channel: that of its oldest message, where it is live and finishes messages
+-- the next finish of a channel: that of its oldest message, if it is live and finishes messages
 abbrev pub next_finish : List Effect → ℕ → ChannelOf → Option Candidate
 next_finish es c p = if live (past_of es) c && p.finishes then option_map (finish_at c p.finish_after) (oldest_pair es c) else None
 
@@ -40,7 +40,7 @@ fore plan es =
     all_finishes (past_of es) 1 plan.channels ++ due_tick (first_due es) ++ due_repeat (length (inbound (past_of es)) == 0) (repeat_due es)
     ++ next_step (slice_get plan.steps (scripted (past_of es)))
 
--- a candidate that is due at a moment or before it
+-- a candidate that is due at or before a time
 abbrev pub up_to : ℕ → Option Candidate → Option Candidate
 up_to t None = None
 up_to t (Some c) = if nat_le c.moment t then Some c else None

@@ -13,7 +13,7 @@ use Rattle.schedule.specs.State.{ScheduleState}
 abbrev pub end_of : ℕ → Counts → List ℕ
 end_of c k = end_line c k.sent k.received k.finished
 
--- It is as after these effects, but for the lines of the channels below channel k, which were taken out.
+-- The run is as after these effects, except for the lines of the channels below channel k, which were taken out.
 pub record Prints (plan : Plan) (es : List Effect) (k : ℕ) (s : ScheduleState) : Type 0 where
   pub stands : IsAfter es s.dispatcher
   pub drained : (c : ℕ) → 1 ≤ c → k ≤ c → c ≤ length s.lines → lines_at s.lines c ≡ lines_first es c (gone s.dispatcher c)

@@ -25,7 +25,7 @@ pub record ScheduleState : Type 0 where
   pub messages : ℕ
   pub latest : ℕ
 
--- a number counted in 64 bits, where it stays at the greatest of them
+-- a number counted in 64 bits, saturated at the greatest of them
 abbrev pub counted : ℕ → ℕ
 counted n = min n (2 ^ 64 - 1)
 
@@ -33,7 +33,7 @@ counted n = min n (2 ^ 64 - 1)
 abbrev pub is_over : ScheduleState → Bool
 is_over s = nat_lt 4000000 s.calls || nat_lt 4000000 s.messages
 
--- It is as after these effects and no ANR was released. It has the lines of what each channel released, or none where lines are not kept; where it
+-- The run is as after these effects, and no ANR was released. It has the lines of what each channel released, or none if it keeps no lines; if it
 -- explains causes it has their text. It counts the messages that were released.
 pub record HasWith (how : Lines) (plan : Plan) (es : List Effect) (s : ScheduleState) : Type 0 where
   pub stands : IsAfter es s.dispatcher

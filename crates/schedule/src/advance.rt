@@ -12,7 +12,7 @@ ghost use Rattle.schedule.specs.Kinds.{is_receiving, is_opening, is_finishing};
 ghost use Rattle.schedule.specs.Handing.{handing, single};
 ghost use Rattle.schedule.specs.Planned.{IsRun, plan_of};
 ghost use Rattle.schedule.specs.State.{ReadyWith};
-ghost use Rattle.schedule.specs.Making.{CountsMore, GoesOn, MakesRound};
+ghost use Rattle.schedule.specs.Making.{CountsMore, GoesOnAt, MakesRound};
 
 use crate::choose::{first_step, next_at_once, next_due};
 use crate::due::{AtOnce, Due, What};
@@ -23,8 +23,8 @@ use input_types::{Args, Moment};
 use std::alloc::AllocError;
 
 impl Schedule {
-    /// One round: a call that opens, receives and finishes nothing, after which so many steps were made, and then all
-    /// that is published is received.
+    /// One round: makes a call that opens, receives and finishes nothing, after which this many steps were made, and
+    /// then receives everything that is published.
     fn round(&mut self, call: &Call, next: usize) -> Result<(), AllocError>
         ensures after { (how : Lines) (plan : PlanView) (es : List Effect) → ReadyWith how plan es self.old
             → is_receiving call.now ≡ false
@@ -33,31 +33,28 @@ impl Schedule {
             → next ≡ is_scripted call.now + scripted (past_of es)
             → OnOk result (ReadyWith how plan (round plan es (single call.now)) self.new) }
         ensures calls { OnOk result (CountsMore self.old self.new) }
-        ensures more { GoesOn self.old self.new }
-        ensures latest { self.new.latest ≡ self.old.latest }
+        ensures more { GoesOnAt self.old self.new }
     {
         self.make(call, next)?;
         self.receive_all()
     }
 
-    /// The round of a finish. After it only the owner of its channel may have more to take.
+    /// The round of a finish. After it, only the owner of its channel may have more to receive.
     #[inline(always)]
     fn finish_round(&mut self, now: Moment, channel: u32, seq: u64) -> Result<(), AllocError>
         ensures after { MakesRound result (single (CallView.Finish now channel seq)) self.old self.new }
         ensures calls { OnOk result (CountsMore self.old self.new) }
-        ensures more { GoesOn self.old self.new }
-        ensures latest { self.new.latest ≡ self.old.latest }
+        ensures more { GoesOnAt self.old self.new }
     {
         self.finish_one(now, channel, seq)?;
         self.receive(channel)
     }
 
-    /// The round of what is due, at this moment.
+    /// The round of what is due at this time.
     fn due_round(&mut self, due: Due, at: Moment) -> Result<(), AllocError>
         ensures after { MakesRound result (single (call_of at due.what)) self.old self.new }
         ensures calls { OnOk result (CountsMore self.old self.new) }
-        ensures more { GoesOn self.old self.new }
-        ensures latest { self.new.latest ≡ self.old.latest }
+        ensures more { GoesOnAt self.old self.new }
     {
         let next = self.next;
         match due.what {
@@ -70,14 +67,13 @@ impl Schedule {
     /// The round that hands in args.
     pub(crate) fn hand_in(&mut self, moment: Moment, args: &Args) -> Result<(), AllocError>
         ensures after { MakesRound result (handing (record { moment = moment; args = args.now })) self.old self.new }
-        ensures more { GoesOn self.old self.new }
-        ensures latest { self.new.latest ≡ self.old.latest }
+        ensures more { GoesOnAt self.old self.new }
     {
         self.notify_and_pump(moment, args)?;
         self.receive_all()
     }
 
-    /// The round of a step at this moment, which is due up to a moment or is not.
+    /// The round of a step, if it is due by a time. Returns whether it was.
     fn advance_step(&mut self, call: &Call, until: Moment) -> Result<bool, AllocError>
         requires { self.old.next < 2 ^ 64 - 1 }
         ensures after { (how : Lines) (plan : PlanView) (es : List Effect) → ReadyWith how plan es self.old
@@ -85,8 +81,7 @@ impl Schedule {
             → soonest (fore plan es) ≡ Some (single call.now)
             → IfOk result (λ b. Advances how plan until es self.old self.new b) }
         ensures calls { IfOk result (λ b. b ≡ true → CountsMore self.old self.new) }
-        ensures more { GoesOn self.old self.new }
-        ensures latest { self.new.latest ≡ self.old.latest }
+        ensures more { GoesOnAt self.old self.new }
     {
         if until.get() < call.moment().get() {
             return Ok(false);
@@ -96,14 +91,13 @@ impl Schedule {
         Ok(true)
     }
 
-    /// The round of what is due, where it is due up to a moment.
+    /// The round of what is due, if it is due by a time. Returns whether it was.
     fn advance_due(&mut self, due: Option<Due>, until: Moment) -> Result<bool, AllocError>
         ensures after { (how : Lines) (plan : PlanView) (es : List Effect) → ReadyWith how plan es self.old
             → soonest (fore plan es) ≡ option_map candidate_of due
             → IfOk result (λ b. Advances how plan until es self.old self.new b) }
         ensures calls { IfOk result (λ b. b ≡ true → CountsMore self.old self.new) }
-        ensures more { GoesOn self.old self.new }
-        ensures latest { self.new.latest ≡ self.old.latest }
+        ensures more { GoesOnAt self.old self.new }
     {
         let Some(due) = due else {
             return Ok(false);
@@ -116,15 +110,14 @@ impl Schedule {
         Ok(true)
     }
 
-    /// One round, where something is due up to a moment, but for args.
+    /// One round of anything but args, if something is due by a time. Returns whether something was.
     pub(crate) fn advance(&mut self, plan: &Plan, until: Moment) -> Result<bool, AllocError>
         requires { IsRun plan.now }
         ensures after { (how : Lines) (es : List Effect) → ReadyWith how (plan_of plan.now) es self.old
             → NoneOverdue (plan_of plan.now).channels es
             → IfOk result (λ b. Advances how (plan_of plan.now) until es self.old self.new b) }
         ensures calls { IfOk result (λ b. b ≡ true → CountsMore self.old self.new) }
-        ensures more { GoesOn self.old self.new }
-        ensures latest { self.new.latest ≡ self.old.latest }
+        ensures more { GoesOnAt self.old self.new }
     {
         let due = next_due(&self.dispatcher, &plan.channels);
         match first_step(&plan.steps, self.next, due) {
@@ -133,8 +126,8 @@ impl Schedule {
         }
     }
 
-    /// The channel, the message and the moment of the next finish, where its owner finishes at once and it is due up to
-    /// a moment and before all else.
+    /// The channel, message and time of the next finish, if its owner finishes at once and the finish is due by a time
+    /// and before everything else.
     #[inline(always)]
     fn due_at_once(&self, plan: &Plan, until: Moment) -> Option<AtOnce>
         ensures { (how : Lines) (es : List Effect) → ReadyWith how (plan_of plan.now) es self.now
@@ -161,8 +154,8 @@ impl Schedule {
         }
     }
 
-    /// One round, where what is due up to a moment is the finish of an owner who finishes at once. Most rounds are such
-    /// ones. Where it is not done, another round may be due.
+    /// One round, if what is due next is a finish by an owner who finishes at once. Most rounds are of this kind. If it
+    /// makes none, a round of another kind may be due.
     #[inline(always)]
     pub(crate) fn finish_at_once(&mut self, plan: &Plan, until: Moment) -> Result<bool, AllocError>
         ensures after { (how : Lines) (es : List Effect) → ReadyWith how (plan_of plan.now) es self.old
@@ -170,8 +163,7 @@ impl Schedule {
             → IfOk result (λ b. b ≡ true → Advances how (plan_of plan.now) until es self.old self.new true) }
         ensures stays { IfOk result (λ b. b ≡ false → self.new ≡ self.old) }
         ensures calls { IfOk result (λ b. b ≡ true → CountsMore self.old self.new) }
-        ensures more { GoesOn self.old self.new }
-        ensures latest { self.new.latest ≡ self.old.latest }
+        ensures more { GoesOnAt self.old self.new }
     {
         let Some(found) = self.due_at_once(plan, until) else {
             return Ok(false);

@@ -5,7 +5,7 @@ ghost use Rattle.dispatch_history.specs.Effect.{Effect};
 ghost use Rattle.dispatch_history.specs.Legal.{answered};
 ghost use Rattle.dispatch_history.specs.Plan.{Plan as PlanView};
 ghost use Rattle.schedule.specs.declared.keeping.Lines.{Lines};
-ghost use Rattle.schedule.specs.Making.{CountsOne, GoesOn, Makes, MakesTwo, ReleasesNone};
+ghost use Rattle.schedule.specs.Making.{CountsOne, GoesOnAt, KeepsMessages, Makes, MakesTwo, ReleasesNone};
 ghost use Rattle.schedule.specs.State.{HasWith};
 
 use crate::schedule::Schedule;
@@ -18,9 +18,7 @@ impl Schedule {
     pub(crate) fn notify(&mut self, now: Moment, args: &Args) -> Result<(), AllocError>
         ensures after { Makes result (CallView.Notify now args.now) self.old self.new }
         ensures calls { CountsOne result self.old self.new }
-        ensures gone { ReleasesNone self.old self.new }
-        ensures more { GoesOn self.old self.new }
-        ensures latest { self.new.latest ≡ self.old.latest }
+        ensures kept { KeepsMessages self.old self.new }
     {
         if self.causes.is_some() {
             let next = self.next;
@@ -39,9 +37,7 @@ impl Schedule {
     pub(crate) fn pump(&mut self, now: Moment) -> Result<(), AllocError>
         ensures after { Makes result (CallView.Pump now) self.old self.new }
         ensures calls { CountsOne result self.old self.new }
-        ensures gone { ReleasesNone self.old self.new }
-        ensures more { GoesOn self.old self.new }
-        ensures latest { self.new.latest ≡ self.old.latest }
+        ensures kept { KeepsMessages self.old self.new }
     {
         if self.causes.is_some() {
             let next = self.next;
@@ -60,8 +56,7 @@ impl Schedule {
     pub(crate) fn notify_and_pump(&mut self, now: Moment, args: &Args) -> Result<(), AllocError>
         ensures after { MakesTwo result (CallView.Notify now args.now) (CallView.Pump now) self.old self.new }
         ensures gone { ReleasesNone self.old self.new }
-        ensures more { GoesOn self.old self.new }
-        ensures latest { self.new.latest ≡ self.old.latest }
+        ensures more { GoesOnAt self.old self.new }
     {
         let done = self.dispatch(now, args)?;
         if done {
@@ -71,7 +66,7 @@ impl Schedule {
         self.pump(now)
     }
 
-    /// Hands in args and dispatches them, where they need not wait and no causes are explained. If it returns `false`,
+    /// Hands in args and dispatches them, if they need not wait and no causes are explained. If it returns `false`,
     /// nothing changed.
     fn dispatch(&mut self, now: Moment, args: &Args) -> Result<bool, AllocError>
         ensures done { (how : Lines) (plan : PlanView) (es : List Effect) → HasWith how plan es self.old
@@ -80,8 +75,7 @@ impl Schedule {
             self.new) }
         ensures undone { IfOk result (λ done. done ≡ false → self.new ≡ self.old) }
         ensures gone { ReleasesNone self.old self.new }
-        ensures more { GoesOn self.old self.new }
-        ensures latest { self.new.latest ≡ self.old.latest }
+        ensures more { GoesOnAt self.old self.new }
     {
         if self.causes.is_some() {
             return Ok(false);
@@ -103,9 +97,7 @@ impl Schedule {
     ) -> Result<(), AllocError>
         ensures after { Makes result (CallView.Finish now channel seq) self.old self.new }
         ensures calls { CountsOne result self.old self.new }
-        ensures gone { ReleasesNone self.old self.new }
-        ensures more { GoesOn self.old self.new }
-        ensures latest { self.new.latest ≡ self.old.latest }
+        ensures kept { KeepsMessages self.old self.new }
     {
         if self.causes.is_some() {
             let next = self.next;

@@ -23,7 +23,7 @@ use dispatcher::Dispatcher;
 use input_types::Moment;
 use window_snapshot::{mask_first, mask_without};
 
-/// Whether a moment is before what is due, if anything is.
+/// Whether a time is before what is due, if anything is due.
 pub(crate) fn is_before(at: Moment, due: Option<Due>) -> bool
     ensures { result ≡ is_before at (option_map candidate_of due) }
 {
@@ -52,8 +52,8 @@ fn next_finish(dispatcher: &Dispatcher, number: u32, channel: &Channel) -> Optio
     })
 }
 
-/// The next finish of a live channel of these, and whether it is one of an owner who finishes at once: such a finish is
-/// due by the clock.
+/// The next finish of a live channel among these, and whether its owner finishes at once: such a finish is due by the
+/// clock.
 fn finish_among(dispatcher: &Dispatcher, number: u32, channels: &[Channel]) -> (Option<Due>, bool)
     requires channels { All IsChannel channels.now }
     requires number { 1 ≤ number }
@@ -71,8 +71,8 @@ fn finish_among(dispatcher: &Dispatcher, number: u32, channels: &[Channel]) -> (
     }
 }
 
-/// The next finish of all channels, where none is due before the clock. Only those are looked at that may have one, up
-/// to the first whose owner finishes at once: nothing is due sooner.
+/// The next finish of all channels, if none is due before the clock. It looks only at channels that may have one, up to
+/// the first whose owner finishes at once: nothing is due sooner.
 fn next_finish_of_all(dispatcher: &Dispatcher, channels: &[Channel]) -> Option<Due>
     requires { All IsChannel channels.now }
     ensures { (es : List Effect) → IsAfter es dispatcher.now → NoneOverdue (map channel_of channels.now) es
@@ -92,7 +92,7 @@ fn next_finish_of_all(dispatcher: &Dispatcher, channels: &[Channel]) -> Option<D
     best
 }
 
-/// The next finish of all channels, where none is due before the clock and the owner of the first channel that may have
+/// The next finish of all channels, if none is due before the clock and the owner of the first channel that may have
 /// one finishes at once: nothing is due sooner.
 #[inline(always)]
 pub(crate) fn next_at_once(dispatcher: &Dispatcher, channels: &[Channel]) -> Option<AtOnce>
@@ -129,7 +129,7 @@ fn next_tick(dispatcher: &Dispatcher) -> Option<Due>
     })
 }
 
-/// Whether something is due at a moment or before it.
+/// Whether something is due at or before a time.
 fn is_due_by(due: Option<Due>, at: u64) -> bool
     ensures { result ≡ is_due_by (option_map candidate_of due) at }
 {
@@ -139,8 +139,8 @@ fn is_due_by(due: Option<Due>, at: u64) -> bool
     }
 }
 
-/// The sooner of the next finish and the next tick. Who is due to be named is mostly not looked for, since a finish
-/// comes long before.
+/// The sooner of the next finish and the next tick. It seldom searches for the channel that is due to be reported,
+/// since a finish usually comes long before.
 fn finish_or_tick(dispatcher: &Dispatcher, finish: Option<Due>) -> Option<Due>
     ensures { (es : List Effect) → IsAfter es dispatcher.now
         → option_map candidate_of result
@@ -164,7 +164,7 @@ fn next_repeat(dispatcher: &Dispatcher) -> Option<Due>
     })
 }
 
-/// What is due next, but for steps and args.
+/// What is due next, apart from steps and args.
 pub(crate) fn next_due(dispatcher: &Dispatcher, channels: &[Channel]) -> Option<Due>
     requires { All IsChannel channels.now }
     ensures { (plan : PlanView) (es : List Effect) → IsAfter es dispatcher.now
@@ -177,7 +177,7 @@ pub(crate) fn next_due(dispatcher: &Dispatcher, channels: &[Channel]) -> Option<
     sooner(first, next_repeat(dispatcher))
 }
 
-/// The next of some steps, where it comes before what is due.
+/// The next of some steps, if it comes before what is due.
 pub(crate) fn first_step(steps: &[Step], next: usize, due: Option<Due>) -> Option<&Step>
     ensures value { option_map (λ s. s.now) result ≡ first_step steps.now next (option_map candidate_of due) }
     ensures within { IsSome result → next < length steps.now }

@@ -1,4 +1,4 @@
-//! Drains what channels were sent: its lines are written, and the messages are released.
+//! Drains what channels were sent: writes the lines of the messages, and releases them.
 ghost use Rattle.std.specs.Prelude.{◌≡◌, ◌≤◌, ◌==◌, ℕ, true, false, List, OnOk, length};
 ghost use Rattle.dispatch_history.specs.Effect.{Effect, stream};
 ghost use Rattle.dispatch_history.specs.Plan.{Plan as PlanView};
@@ -6,23 +6,22 @@ ghost use Rattle.dispatcher.specs.Access.{gone, is_opened};
 ghost use Rattle.schedule.specs.declared.keeping.Lines.{Lines};
 ghost use Rattle.schedule.specs.Released.{KeepsUnfinished};
 ghost use Rattle.schedule.specs.State.{HasWith};
-ghost use Rattle.schedule.specs.Making.{CountsAll, GoesOn, NoFewerMessages, Stays};
+ghost use Rattle.schedule.specs.Making.{CountsAll, GoesOnAt, NoFewerMessages, Stays};
 
 use crate::schedule::Schedule;
 use crate::stream::drain_left;
 use std::alloc::AllocError;
 
 impl Schedule {
-    /// The lines of what a removed channel was sent and did not release come behind those before, and the channel
-    /// releases all. Of a live channel nothing changes.
+    /// Appends the lines of the messages that a removed channel has not released, and releases them all. A live channel
+    /// does not change.
     pub(crate) fn drain_removed(&mut self, channel: u32) -> Result<(), AllocError>
         ensures after { Stays result self.old self.new }
         ensures keeps { (how : Lines) (plan : PlanView) (es : List Effect) → HasWith how plan es self.old
             → KeepsUnfinished es self.old.dispatcher → OnOk result (KeepsUnfinished es self.new.dispatcher) }
         ensures calls { self.new.calls ≡ self.old.calls }
         ensures messages { NoFewerMessages self.old self.new }
-        ensures more { GoesOn self.old self.new }
-        ensures latest { self.new.latest ≡ self.old.latest }
+        ensures more { GoesOnAt self.old self.new }
     {
         let Some(counts) = self.dispatcher.counts(channel) else {
             return Ok(());
@@ -36,7 +35,7 @@ impl Schedule {
         Ok(())
     }
 
-    /// The lines of what a channel was sent and did not release come behind those before, and the channel releases it.
+    /// Appends the lines of the messages that a channel has not released, and releases them.
     pub(crate) fn drain(&mut self, channel: u32) -> Result<(), AllocError>
         ensures after { Stays result self.old self.new }
         ensures all { (how : Lines) (plan : PlanView) (es : List Effect) → HasWith how plan es self.old
@@ -46,8 +45,7 @@ impl Schedule {
             → gone self.new.dispatcher c ≡ gone self.old.dispatcher c }
         ensures calls { self.new.calls ≡ self.old.calls }
         ensures messages { NoFewerMessages self.old self.new }
-        ensures more { GoesOn self.old self.new }
-        ensures latest { self.new.latest ≡ self.old.latest }
+        ensures more { GoesOnAt self.old self.new }
     {
         if !self.dispatcher.has_messages(channel) {
             return Ok(());
@@ -58,16 +56,14 @@ impl Schedule {
         Ok(())
     }
 
-    /// The lines of what all channels were sent and did not release come behind those before, and the channels release
-    /// it.
+    /// Appends the lines of the messages that all channels have not released, and releases them.
     pub(crate) fn drain_sent(&mut self) -> Result<(), AllocError>
         ensures after { Stays result self.old self.new }
         ensures counted { (how : Lines) (plan : PlanView) (es : List Effect) → HasWith how plan es self.old
             → CountsAll result es self.new }
         ensures calls { self.new.calls ≡ self.old.calls }
         ensures messages { NoFewerMessages self.old self.new }
-        ensures more { GoesOn self.old self.new }
-        ensures latest { self.new.latest ≡ self.old.latest }
+        ensures more { GoesOnAt self.old self.new }
     {
         for place in 0..self.dispatcher.opened() {
             self.drain(place + 1)?;

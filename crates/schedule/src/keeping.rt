@@ -1,23 +1,23 @@
-//! What a run has to show for what it does.
+//! What a run keeps to show what it did.
 ghost use Rattle.std.specs.Prelude.{◌≡◌, ℕ, List, [], option_map};
 ghost use Rattle.schedule.specs.Causes.{causes_of};
 ghost use Rattle.schedule.specs.Lines.{texts};
 
 use std::alloc::Global;
 
-/// What a run has of the messages that its channels' owners receive, and of its calls.
+/// What a run keeps of its calls, and of the messages that its channels' owners receive.
 #[derive(Clone, Copy, Debug, PartialEq, Eq)]
 pub enum Lines {
-    /// The line of each, from which the text of the run is made.
+    /// The line of each message. The text of the run is made from these.
     Kept,
-    /// Nothing but how many messages there were: such a run has no text.
+    /// Only the number of messages. Such a run has no text.
     Counted,
-    /// No lines of messages, and of each call but receives what it came to, and why.
+    /// No lines of messages, but the result of each call except receives, and why.
     Causes,
 }
 
 impl Lines {
-    /// How many texts a run of so many channels has.
+    /// How many texts a run with this many channels has.
     pub(crate) fn texts(self, channels: usize) -> usize
         ensures { result ≡ texts self channels }
     {
@@ -27,7 +27,7 @@ impl Lines {
         }
     }
 
-    /// The text of the causes before the first call, where they are sent.
+    /// The text of the causes before the first call, if the run writes causes.
     pub(crate) fn causes(self, alloc: Global) -> Option<Vec<u8>>
         ensures { (displays : List ℕ) → option_map (λ v. v.items) result ≡ causes_of self displays [] }
     {

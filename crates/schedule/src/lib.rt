@@ -1,8 +1,8 @@
-//! The ordered schedule: the calls of a plan in the order of their moments.
+//! The ordered schedule: the calls of a plan in the order of their times.
 //!
-//! A plan has channels, steps of scripts and a moment at which it ends; args come to it one by one, in rising moment. A
-//! window's owner that finishes each message 1,000 microseconds after it took it gives, for a finger that goes down at
-//! 5,000 and up at 5,500, these rounds:
+//! A plan has channels, steps of scripts and a time at which it ends; args come to it one by one, in rising time. Say
+//! that a window's owner finishes each message 1,000 microseconds after receiving it. A finger that goes down at 5,000
+//! and up at 5,500 then gives these rounds:
 //!
 //! ```text
 //! 5000   Notify, Pump       then Receive of the DOWN
@@ -11,14 +11,15 @@
 //! 6500   Finish of the UP
 //! ```
 //!
-//! Of one moment a finish comes first, then a tick, a repeat of a key, a step, and args last. A [`Schedule`] drives a
-//! dispatcher so and keeps no list of what it was given or sent: its contract says that the dispatcher is as after the
-//! effects of the ordered run of all args that came. The next round is found from the oldest message of each channel,
-//! since what is published is received at once. Where a run keeps its [`Lines`], each message is written at the end of
-//! the round that sent it, and the text of the run is made of these; a run that only counts them goes the same way, and
-//! has no text. Either way the dispatcher then releases each message, so a slow owner keeps none in memory: its
-//! receives are counted, and hand out nothing.
-//! A run that explains causes adds what each call but a receive came to: the first of these rounds gives
+//! At one time a finish comes first, then a tick, a repeat of a key, a step, and args last. A [`Schedule`] drives a
+//! dispatcher in this order and keeps no list of what it was given or sent: its contract says that the dispatcher is as
+//! after the effects of the ordered run of all args that came. It finds the next round from the oldest message of each
+//! channel, since owners receive at once what is published.
+//!
+//! What a run keeps is its [`Lines`]. One that keeps lines writes each message at the end of the round that sent it,
+//! and makes its text of these. One that only counts does the same and has no text. Either way the dispatcher then
+//! releases each message, so a slow owner keeps none in memory: its receives are counted, and hand out nothing. A run
+//! that explains causes writes the result of each call but receives: the first of these rounds gives
 //!
 //! ```text
 //! 5000 down 1 0 540,1200 touched 1 row first chosen 1 spies - pilfering - given 1 mute - outside -

@@ -18,7 +18,7 @@ use dispatcher::Dispatcher;
 use input_types::{Limit, Moment};
 use std::alloc::{AllocError, Global};
 
-/// A run before its first call, with these lines.
+/// A run before its first call, which keeps these lines.
 fn unopened(alloc: Global, plan: &Plan, lines: Lines) -> Result<Schedule, AllocError>
     ensures has { IfOk result (HasWith lines (plan_of plan.now) []) }
     ensures messages { IfOk result (λ s. s.messages ≡ 0) }
@@ -38,7 +38,7 @@ fn unopened(alloc: Global, plan: &Plan, lines: Lines) -> Result<Schedule, AllocE
 }
 
 impl Schedule {
-    /// A run to which no args came, with these lines. Its channels are opened.
+    /// A run to which no args came yet, which keeps these lines. Its channels are open.
     pub fn new(alloc: Global, plan: &Plan, lines: Lines) -> Result<Schedule, AllocError>
         requires { IsRun plan.now }
         ensures { IfOk result (RanWith lines (plan_of plan.now) []) }
@@ -47,7 +47,7 @@ impl Schedule {
         Ok(run)
     }
 
-    /// A run whose channels are opened, of which any order may be made, with these lines.
+    /// A run of any order of calls, which keeps these lines. Its channels are open.
     pub fn begin(alloc: Global, plan: &Plan, lines: Lines) -> Result<Schedule, AllocError>
         requires { IsRun plan.now }
         ensures has { IfOk result (HasWith lines (plan_of plan.now) (begun (plan_of plan.now))) }

@@ -1,4 +1,4 @@
-//! The streams text of a run in pieces: the lines of what channels were sent are moved out of the run, and not copied.
+//! The streams text of a run in pieces. The lines of what channels were sent are moved out of the run, not copied.
 ghost use Rattle.std.specs.Prelude.{◌≡◌, ◌≢◌, ◌≤◌, ◌+◌, ◌++◌, ℕ, true, List, drop, IfOk, OnErr, OnOk, reverse, length};
 ghost use Rattle.std.specs.Option.{unwrap_or};
 ghost use Rattle.dispatcher.specs.Access.{gone, is_opened};
@@ -68,8 +68,8 @@ fn add_end(dispatcher: &Dispatcher, channel: u32, text: &mut Vec<u8>) -> Result<
 }
 
 impl Schedule {
-    /// Takes out the section of a channel with this name: what it was sent, and how far its owner has come. After want
-    /// of memory a front part of the section is behind the text, and the run may have lost the lines of this channel.
+    /// Takes out the section of a channel with this name: what it was sent, and how far its owner has come. If memory
+    /// runs out, a prefix of the section was added to the text, and the run may have lost the lines of this channel.
     pub fn take_section(
         &mut self,
         alloc: Global,
@@ -94,8 +94,7 @@ impl Schedule {
         text.push(rest_text(alloc, &self.dispatcher, channel)?)
     }
 
-    /// Appends the last line of a channel's section: how far its owner has come. If memory runs out, the text is as
-    /// before.
+    /// Appends the last line of a channel's section: how far its owner got. If memory runs out, the text is as before.
     pub fn add_end(&self, channel: u32, text: &mut Vec<u8>) -> Result<(), AllocError>
         ensures ok { (how : Lines) (plan : PlanView) (es : List Effect) → HasWith how plan es self.now
             → OnOk result (text.new.items ≡ text.old.items ++ end_of channel (unwrap_or (counts es channel) unopened)) }

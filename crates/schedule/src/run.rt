@@ -14,10 +14,10 @@ use crate::schedule::Schedule;
 use input_types::{Args, Moment};
 use std::alloc::AllocError;
 
-/// The most calls of a run, and the most messages of its channels together.
+/// The most calls of a run, and the most messages of all its channels together.
 const LIMIT: u64 = 4_000_000;
 
-/// The latest moment of steps.
+/// The time of the latest step.
 fn last_step(steps: &[Step]) -> Moment
     ensures { result ≡ last_step 0 steps.now }
 {
@@ -29,14 +29,14 @@ fn last_step(steps: &[Step]) -> Moment
 }
 
 impl Schedule {
-    /// Whether more calls or more messages are counted than may be.
+    /// Whether there were more calls or more messages than the limit.
     fn is_over(&self) -> bool
         ensures { result ≡ is_over self.now }
     {
         LIMIT < self.calls || LIMIT < self.messages
     }
 
-    /// Whether there are more than 4,000,000 calls, or more than 4,000,000 messages of all channels together.
+    /// Whether there were more than 4,000,000 calls, or more than 4,000,000 messages of all channels together.
     pub fn is_too_long(&self) -> bool
         ensures over { result ≡ is_over self.now }
         ensures too_long { (how : Lines) (plan : PlanView) (es : List Effect) → ReadyWith how plan es self.now
@@ -48,9 +48,12 @@ impl Schedule {
         self.is_over()
     }
 
-    /// Does all that is due before these args, and hands them in. A run that has become too long does nothing more.
+    /// Runs everything that is due before these args, and hands them in. A run that has become too long does nothing
+    /// more.
+    ///
     /// If memory runs out, the dispatcher is as after what was done up to then, and nothing else is said of the run.
-    /// Mostly what is due is finishes of owners who finish at once: a loop of its own does those that come first.
+    ///
+    /// Usually finishes by owners who finish at once are due, so a loop of its own runs those that come first.
     #[inline(never)]
     pub fn take(&mut self, plan: &Plan, moment: Moment, args: &Args) -> Result<(), AllocError>
         requires { IsRun plan.now }
@@ -73,8 +76,8 @@ impl Schedule {
         Ok(())
     }
 
-    /// Does all that is due up to the end, once all args came. If memory runs out, the dispatcher is as after what was
-    /// done up to then, and nothing else is said of the run.
+    /// Runs everything that is due up to the end, once all args came. If memory runs out, the dispatcher is as after
+    /// what was done up to then, and nothing else is said of the run.
     pub fn finish(&mut self, plan: &Plan) -> Result<(), AllocError>
         requires { IsRun plan.now }
         ensures completed { (how : Lines) (given : List Cooked) → RanWith how (plan_of plan.now) given self.old

@@ -15,7 +15,8 @@ ghost use Rattle.schedule.specs.Kinds.{is_receiving, is_finishing};
 ghost use Rattle.schedule.specs.Released.{AllReleased, KeepsUnfinished};
 ghost use Rattle.schedule.specs.More.{ComesTo};
 ghost use Rattle.schedule.specs.State.{HasWith};
-ghost use Rattle.schedule.specs.Making.{CountsAll, CountsNoFewer, CountsOne, GoesOn, Makes, MakesWith, NoFewerMessages, Receives, ReleasesNone};
+ghost use Rattle.schedule.specs.Making.{CountsAll, CountsNoFewer, CountsOne, GoesOn, GoesOnAt, KeepsMessages, Makes, MakesWith};
+ghost use Rattle.schedule.specs.Making.{NoFewerMessages, Receives};
 
 use crate::stream::Stream;
 use dispatch_calls::Call;
@@ -32,14 +33,14 @@ use window_snapshot::{mask_first, mask_without};
 pub struct Schedule {
     pub(crate) dispatcher: Dispatcher,
     pub(crate) streams: Vec<Stream>,
-    /// The causes of the calls so far as a text, where they are sent.
+    /// The causes of the calls so far as a text, if the run writes causes.
     pub(crate) causes: Option<Vec<u8>>,
     /// How many steps were made.
     pub(crate) next: usize,
     pub(crate) calls: u64,
-    /// How many messages were released, of all channels together.
+    /// How many messages all channels together released.
     pub(crate) messages: u64,
-    /// The latest moment of args that came.
+    /// The time of the latest args.
     pub(crate) latest: Moment,
 }
 
@@ -68,7 +69,7 @@ impl Schedule {
         self.next
     }
 
-    /// Takes out the text of the causes of the calls so far, of a run that explains them. Those of later calls are
+    /// Takes out the text of the causes of the calls so far, of a run that writes causes. The causes of later calls are
     /// lost.
     pub fn take_causes(&mut self, alloc: Global) -> Vec<u8>
         ensures { (plan : PlanView) (es : List Effect) → HasWith Causes plan es self.old
@@ -80,8 +81,8 @@ impl Schedule {
         }
     }
 
-    /// Makes one call that is not a receive, after which `next` steps were made. All messages are then drained to lines
-    /// and released.
+    /// Makes one call that is not a receive, after which `next` steps were made, and then drains all messages to lines
+    /// and releases them.
     pub fn step(&mut self, call: &Call, next: usize) -> Result<(), AllocError>
         ensures after { MakesWith result call.now next self.old self.new }
         ensures calls { CountsOne result self.old self.new }
@@ -90,15 +91,14 @@ impl Schedule {
             → next ≡ is_scripted call.now + scripted (past_of es)
             → CountsAll result (answered plan.displays call.now es) self.new }
         ensures messages { NoFewerMessages self.old self.new }
-        ensures more { GoesOn self.old self.new }
-        ensures latest { self.new.latest ≡ self.old.latest }
+        ensures more { GoesOnAt self.old self.new }
     {
         self.make(call, next)?;
         self.drain_sent()
     }
 
-    /// Makes one call that is not a receive, after which `next` steps were made. Of a channel that it removes only
-    /// lines are kept.
+    /// Makes one call that is not a receive, after which `next` steps were made. If it removes a channel, only the
+    /// channel's lines are kept.
     pub(crate) fn make(&mut self, call: &Call, next: usize) -> Result<(), AllocError>
         ensures after { MakesWith result call.now next self.old self.new }
         ensures calls { CountsOne result self.old self.new }
@@ -108,8 +108,7 @@ impl Schedule {
             → is_finishing call.now ≡ false → AllReleased es self.old.dispatcher
             → OnOk result (KeepsUnfinished (answered plan.displays call.now es) self.new.dispatcher) }
         ensures messages { NoFewerMessages self.old self.new }
-        ensures more { GoesOn self.old self.new }
-        ensures latest { self.new.latest ≡ self.old.latest }
+        ensures more { GoesOnAt self.old self.new }
     {
         self.apply(call, next)?;
         match call {
@@ -118,14 +117,12 @@ impl Schedule {
         }
     }
 
-    /// The call alone.
+    /// Makes the call alone.
     pub(crate) fn apply(&mut self, call: &Call, next: usize) -> Result<(), AllocError>
         ensures after { MakesWith result call.now next self.old self.new }
         ensures calls { CountsOne result self.old self.new }
-        ensures gone { ReleasesNone self.old self.new }
+        ensures kept { KeepsMessages self.old self.new }
         ensures messages { self.new.messages ≡ self.old.messages }
-        ensures more { GoesOn self.old self.new }
-        ensures latest { self.new.latest ≡ self.old.latest }
     {
         match apply_call(&mut self.causes, &mut self.dispatcher, call) {
             Ok(()) => {
@@ -137,15 +134,13 @@ impl Schedule {
         }
     }
 
-    /// The owner of a channel takes its next message, where there is one.
+    /// The owner of a channel receives its next message, if there is one.
     #[inline(always)]
     pub fn receive_next(&mut self, channel: u32) -> Result<(), AllocError>
         ensures after { Makes result (CallView.Receive channel) self.old self.new }
-        ensures gone { ReleasesNone self.old self.new }
         ensures calls { CountsNoFewer result self.old self.new }
+        ensures kept { KeepsMessages self.old self.new }
         ensures messages { self.new.messages ≡ self.old.messages }
-        ensures more { GoesOn self.old self.new }
-        ensures latest { self.new.latest ≡ self.old.latest }
     {
         match self.dispatcher.receive(channel) {
             Ok(()) => {
@@ -156,16 +151,14 @@ impl Schedule {
         }
     }
 
-    /// The owner of a channel takes so many messages.
+    /// The owner of a channel receives this many messages.
     #[inline(always)]
     fn receive_many(&mut self, channel: u32, count: u64) -> Result<(), AllocError>
         ensures after { (how : Lines) (plan : PlanView) (es : List Effect) → HasWith how plan es self.old
             → OnOk result
             (HasWith how plan (extend plan.displays es (replicate count (CallView.Receive channel))) self.new) }
-        ensures gone { ReleasesNone self.old self.new }
         ensures calls { CountsNoFewer result self.old self.new }
-        ensures more { GoesOn self.old self.new }
-        ensures latest { self.new.latest ≡ self.old.latest }
+        ensures kept { KeepsMessages self.old self.new }
     {
         for _ in 0..count {
             self.receive_next(channel)?;
@@ -177,10 +170,8 @@ impl Schedule {
     #[inline(always)]
     pub(crate) fn receive(&mut self, channel: u32) -> Result<(), AllocError>
         ensures after { Receives result channel self.old self.new }
-        ensures gone { ReleasesNone self.old self.new }
         ensures calls { CountsNoFewer result self.old self.new }
-        ensures more { GoesOn self.old self.new }
-        ensures latest { self.new.latest ≡ self.old.latest }
+        ensures kept { KeepsMessages self.old self.new }
     {
         let Some(counts) = self.dispatcher.counts(channel) else {
             return Ok(());
@@ -214,7 +205,7 @@ impl Schedule {
     }
 }
 
-/// Applies a call, and puts what it comes to behind the text of the causes, where there is one.
+/// Makes a call, and appends its causes to the text of the causes, if there is one.
 fn apply_call(
     causes: &mut Option<Vec<u8>>,
     dispatcher: &mut Dispatcher,
@@ -229,7 +220,10 @@ fn apply_call(
     ensures more { (es : List Effect) → ComesTo es dispatcher.old → ComesTo es dispatcher.new }
 {
     match causes {
-        Some(text) => why_lines::apply(text, dispatcher, call),
+        Some(text) => {
+            why_lines::apply(text, dispatcher, call)?;
+            Ok(())
+        }
         None => {
             take_step(dispatcher, call)?;
             Ok(())

@@ -14,7 +14,7 @@ use std::marker::Model;
 use std::mem;
 use stream_text::LineWriter;
 
-/// The messages that a channel was sent and released. Only their lines are kept, which are far shorter.
+/// The messages that a channel was sent and released. Only their lines are kept, which are much shorter.
 #[derive(Drop)]
 pub(crate) struct Stream {
     lines: Vec<u8>,
@@ -48,7 +48,7 @@ impl Stream {
         mem::replace(&mut self.lines, Vec::new(alloc))
     }
 
-    /// One message more.
+    /// Appends the line of one more message.
     fn drain(&mut self, message: &Message) -> Result<(), AllocError>
         ensures ok { OnOk result (self.new ≡ self.old ++ message_line message.now) }
         ensures err { OnErr result (self.new ≡ self.old) }
@@ -56,7 +56,7 @@ impl Stream {
         self.writer.message(message, &mut self.lines)
     }
 
-    /// Some messages more.
+    /// Appends the lines of more messages.
     fn drain_all(&mut self, messages: &[Message]) -> Result<(), AllocError>
         ensures { OnOk result (self.new ≡ self.old ++ message_lines messages.now) }
     {
@@ -79,7 +79,7 @@ pub(crate) fn empty_streams(alloc: Global, count: usize) -> Result<Vec<Stream>, 
     Ok(streams)
 }
 
-/// A channel was sent these messages more.
+/// Appends the lines of more messages of a channel.
 fn drain_all(
     streams: &mut Vec<Stream>,
     channel: u32,
@@ -94,7 +94,7 @@ fn drain_all(
     Ok(())
 }
 
-/// Puts the messages of a channel that were not released to its lines, and answers how many they are.
+/// Appends the messages that a channel has not released to its lines, and returns how many there are.
 pub(crate) fn drain_left(
     streams: &mut Vec<Stream>,
     dispatcher: &Dispatcher,

@@ -44,7 +44,7 @@ pub(crate) fn add_left(
     }
 }
 
-/// How far a channel has come; of one that was never opened nothing.
+/// How far a channel got; nothing for a channel that was never opened.
 pub(crate) fn counts_of(dispatcher: &Dispatcher, channel: u32) -> Counts
     ensures { (es : List Effect) → IsAfter es dispatcher.now → result ≡ unwrap_or (counts es channel) unopened }
 {
@@ -60,7 +60,7 @@ pub(crate) fn counts_of(dispatcher: &Dispatcher, channel: u32) -> Counts
     }
 }
 
-/// Appends the lines of ANRs, or of as many of them as there is memory for.
+/// Appends the lines of ANRs, or of as many as there is memory for.
 fn append_anrs(anrs: &[Anr], text: &mut Vec<u8>) -> Result<(), AllocError>
     ensures ok { OnOk result (text.new.items ≡ text.old.items ++ anr_lines anrs.now) }
     ensures front { take (length text.old.items) text.new.items ≡ text.old.items }
@@ -71,7 +71,7 @@ fn append_anrs(anrs: &[Anr], text: &mut Vec<u8>) -> Result<(), AllocError>
     Ok(())
 }
 
-/// Appends the lines of ANRs. Out of memory leaves `text` as it was.
+/// Appends the lines of ANRs. If memory runs out, `text` stays as it was.
 pub fn add_all_anrs(anrs: &[Anr], text: &mut Vec<u8>) -> Result<(), AllocError>
     ensures ok { OnOk result (text.new.items ≡ text.old.items ++ anr_lines anrs.now) }
     ensures err { OnErr result (text.new.items ≡ text.old.items) }
@@ -85,7 +85,7 @@ pub fn add_all_anrs(anrs: &[Anr], text: &mut Vec<u8>) -> Result<(), AllocError>
 }
 
 impl Schedule {
-    /// The times that a channel was named unresponsive, the first one first.
+    /// The ANRs of the run, oldest first.
     pub fn anrs(&self) -> &[Anr]
         ensures { (how : Lines) (plan : PlanView) (es : List Effect) → HasWith how plan es self.now
             → result.now ≡ anrs es }

@@ -1,4 +1,4 @@
--- What a finish tells.
+-- The causes of a finish.
 use Rattle.std.proofs.Common.{◌≡◌, ℕ, Bool, true, false, not, cond, ◌&&◌, List, ◌∷◌, nat_le, refl, sym, ap, ap₂, ◌∙◌, subst}
 use Rattle.dispatch_calls.specs.declared.call.Call.TheVariants.{Finish}
 use Rattle.dispatch_calls.specs.declared.reply.Reply.{Reply}

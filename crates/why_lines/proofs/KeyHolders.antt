@@ -56,7 +56,7 @@ with_it k (l ∷ ls) = by_order (is_before k l) (with_it k ls)
     by_order true more = ap (λ b. b || list_any (same_key k) (l ∷ ls)) (same_itself k)
     by_order false more = ap (λ b. same_key k l || b) more ∙ or_true (same_key k l)
 
--- a key that goes down is held by the window that hears it
+-- a key that goes down is held by the window that is sent it
 hears_it : (k : KeyArgs) (hears loses : Bool) (p : KeyArgs → Bool) (held : List KeyArgs) → (hears ≡ false → held ≡ [])
     → list_any (same_key k) (key_given (Some k) hears (cond loses [] (filter p held))) ≡ hears
 hears_it k true loses p held none = with_it k (cond loses [] (filter p held))

@@ -72,7 +72,7 @@ given_targets s m p given blocked able w rest can is =
     ∙ left_over (targets s m p w) (s.able w) k
     ∙ sym (given_is s m p w)
 
--- those who watch and are not given it are told of a touch outside
+-- those who watch and are not given it are sent a touch outside
 pub watching_rest : (s : Scene) (m : Motion) (p : Pointer) (r watchers given w : ℕ) → Comes s m p
     → mask_has r w ≡ (not (mask_has given w) && mask_has watchers w)
     → mask_has given w ≡ (down_of s m p).given w

@@ -1,4 +1,4 @@
--- What a motion tells, by what it does to its pointer.
+-- The causes of a motion, by what it does to its pointer.
 use Rattle.std.proofs.Common.{◌≡◌, ℕ, true, false, cond, List, [], ◌∷◌, Some, ap, ◌∙◌}
 use Rattle.input_types.specs.declared.motion.Motion.{Motion}
 use Rattle.input_types.specs.declared.pointer.Pointer.{Pointer}

@@ -37,7 +37,7 @@ answered_words ds call es answer = call_words ds call answer (effect_of ds call 
 pub stands_lawful : (ds : List ℕ) (es : List Effect) (d : Dispatching) → IsAfter es d → d.displays ≡ ds → Lawful ds es
 stands_lawful ds es d stands same = subst (λ x. Lawful x es) same stands.lawful
 
--- a step that moves no focus is told where its lines are
+-- a step that moves no focus is written if its lines are
 pub sends : (ds : List ℕ) (call : Call) (es : List Effect) (answer : Reply) (d : Dispatching) (t : ℕ) (words : List (List ℕ)) (old new : List ℕ)
     → IsAfter (step ds call answer es) d
     → d.displays ≡ ds
@@ -57,7 +57,7 @@ sends ds call es answer d t words old new stands same at still grown are =
           ∙ ap (λ text. old ++ text) (sym (still_law ds call answer es x refl still));
     }
 
--- a step that may move the focus is told where its lines are, and behind them the changes
+-- a step that may move the focus is written if its lines are, and after them the changes
 pub sends_moved : (ds : List ℕ) (call : Call) (es : List Effect) (answer : Reply) (d : Dispatching) (t : ℕ) (words : List (List ℕ)) (old new : List ℕ)
     → IsAfter (step ds call answer es) d
     → d.displays ≡ ds
@@ -78,7 +78,7 @@ sends_moved ds call es answer d t words old new stands same at grown are =
           ∙ ap (λ text. old ++ text) (sym (moved_law ds call answer es x refl));
     }
 
--- a silent step tells nothing
+-- a silent step writes nothing
 pub unsent : (ds : List ℕ) (call : Call) (es : List Effect) (text : List ℕ) (answer : Reply) (d : Dispatching) → IsAfter (step ds call answer es) d
     → is_silent call answer ≡ true → ExplainsAfter call es ds text text d
 unsent ds call es text answer d stands silent =

@@ -1,4 +1,4 @@
--- What a pilfer tells.
+-- The causes of a pilfer.
 use Rattle.std.proofs.Common.{◌≡◌, ℕ, suc, Bool, true, false, not, cond, ◌&&◌, ◌||◌, ◌==◌, List, [], ◌∷◌, filter, refl, sym, ap, ap₂, ◌∙◌}
 use Rattle.std.specs.List.{list_any}
 use Rattle.std.proofs.Math.Path.{fun_ext}
@@ -93,7 +93,7 @@ holds_nothing lives spies holds e f g = ap₂ (λ a b. reply_by a b false) (sym 
 pub is_done : (lives spies holds : Bool) → lives ≡ true → spies ≡ true → holds ≡ true → Done ≡ reply_by lives spies holds
 is_done lives spies holds e f g = ap₂ (λ a b. reply_by a b true) (sym e) (sym f) ∙ ap (reply_by lives spies) (sym g)
 
--- a pilfer that is refused tells why
+-- a refused pilfer says why
 pub refused_sent : (r : PilferRefused) (s : Scene) (c d : ℕ) → pilfer_word c d (refusal_word (answer_of r)) ≡ pilfer_words (answer_of r) s c d
 refused_sent IsGone s c d = refl
 refused_sent IsNotSpy s c d = refl

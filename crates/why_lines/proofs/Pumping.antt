@@ -1,4 +1,4 @@
--- What a pump tells, by what waits.
+-- The causes of a pump, by what waits.
 use Rattle.std.proofs.Common.{◌≡◌, ◌+◌, ℕ, max, Bool, true, false, cond, List, [], ◌∷◌, slice_get, is_some, Option, Some, None, refl, sym, ap, ◌∙◌}
 use Rattle.std.specs.List.{list_any}
 use Rattle.std.proofs.lemmas.Bool.{true≢false}

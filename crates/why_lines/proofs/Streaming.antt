@@ -1,4 +1,4 @@
--- What streams tell of pointers that go down.
+-- What streams say of pointers that go down.
 use Rattle.std.proofs.Common.{◌≡◌, ◌≤◌, ℕ, Bool, true, false, cond, ◌==◌, ◌&&◌, ◌||◌, List, [], ◌∷◌, ◌++◌, map, flat_map, Option, Some, None, refl, ap, ap₂, ◌∙◌, arith}
 use Rattle.std.specs.List.{list_any}
 use Rattle.std.proofs.lemmas.Bool.{eqb-true, true≢false}
@@ -58,7 +58,7 @@ or_false : (b : Bool) → ((b || false) || false) ≡ b
 or_false true = refl
 or_false false = refl
 
--- what a window is told of pointers that go down is sent in motions, device by device
+-- what a window is sent of pointers that go down comes in motions, device by device
 said_down : (after : History) (args : Option Args) (s : Scene) (e : Step) (k : Mark) (es : List Effect) (w : ℕ) → live after w ≡ true
     → list_any says_down (said after args s e k es w) ≡ sends_down (flat_map (sent_with s e k w) devices)
 said_down after args s e k es w lives =
@@ -79,7 +79,7 @@ absorbs true r = refl
 absorbs false true = refl
 absorbs false false = refl
 
--- where one device alone may tell of such a pointer, that is all that is sent
+-- if only one device may have such a pointer, that is all that is sent
 one_device : (f : ℕ → List Motion) (d : ℕ) (ds : List ℕ) → ((e : ℕ) → (e == d) ≡ false → sends_down (f e) ≡ false)
     → sends_down (flat_map f ds) ≡ (list_any (λ e. e == d) ds && sends_down (f d))
 one_device f d [] others = refl

@@ -1,4 +1,4 @@
--- Worked examples: what the next pump tells. All of them compute.
+-- Worked examples: the causes of the next pump. All of them compute.
 use Rattle.std.specs.Prelude.{codes, ◌≡◌, ℕ, List, [], ◌∷◌, ◌++◌, reverse, refl}
 use Rattle.std.specs.Fmt.{digits}
 use Rattle.input_types.specs.declared.message.Args.TheVariants.{Motion as MotionArgs}
@@ -10,7 +10,7 @@ use Rattle.dispatch_history.proofs.Worked.{window, at, motion, moved, open_two, 
 use Rattle.why_text.specs.Words.{channels_that, ids_that}
 use Rattle.why_lines.specs.Pumping.{pump_words}
 
--- what a pump at a moment tells after some calls, which stand in order
+-- the causes of a pump at a time after some calls, which stand in order
 abbrev next_sent : ℕ → List Call → List (List ℕ)
 next_sent now calls = pump_words one_display now (run one_display (reverse calls))
 

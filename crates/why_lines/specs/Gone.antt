@@ -7,7 +7,7 @@ use Rattle.dispatch_history.specs.Keys.{keys}
 use Rattle.why_text.specs.Lines.{gone_word}
 use Rattle.why_text.specs.Lost.{are_some, items_word, key_item}
 
--- the line of a window that loses these items, where there are some
+-- the line of a window that loses these items, if there are any
 abbrev pub gone_line : ℕ → List (List ℕ) → List (List ℕ)
 gone_line w items = if are_some items then gone_word w (items_word items) ∷ [] else []
 
@@ -15,12 +15,12 @@ gone_line w items = if are_some items then gone_word w (items_word items) ∷ []
 abbrev pub keys_gone : ℕ → List KeyArgs → Option ℕ → List KeyArgs
 keys_gone w held target = if is_at target w then [] else held
 
--- the keys that the window holds which keys go to, where there is one
+-- the keys held by the window that keys go to, if there is one
 abbrev pub target_keys : List Effect → Option ℕ → List KeyArgs
 target_keys es None = []
 target_keys es (Some w) = keys es w
 
--- the line of the window which keys went to, where it loses the keys that it holds
+-- the line of the window that keys went to, if it loses the keys that it holds
 abbrev pub target_line : Option ℕ → List KeyArgs → Option ℕ → List (List ℕ)
 target_line None held target = []
 target_line (Some w) held target = gone_line w (map key_item (keys_gone w held target))

@@ -9,7 +9,7 @@ use Rattle.why_text.specs.Lost.{holds}
 use Rattle.why_lines.specs.Rows.{RowIs}
 use Rattle.why_lines.specs.declared.snapshots.Held.{Held}
 
--- the keys that the window holds: those of the one which keys go to, where it is that
+-- the keys that the window holds: those held by the window that keys go to, if it is that one
 abbrev pub held_keys : Held → ℕ → List KeyArgs
 held_keys h w = if is_at h.target w then h.keys.now else []
 

@@ -11,7 +11,7 @@ pub record OnlyHolds (es : List Effect) (h : KeyHolder) : Type 0 where
   pub keys_are : map (λ m. m.key) h.keys.now ≡ keys es h.window
   pub others : (w : ℕ) → (w == h.window) ≡ false → keys es w ≡ []
 
--- no window holds keys but this one, where there is one
+-- no window holds keys except this one, if there is one
 abbrev pub HoldKeys : List Effect → Option KeyHolder → Type 0
 HoldKeys es None = (w : ℕ) → keys es w ≡ []
 HoldKeys es (Some h) = OnlyHolds es h

@@ -30,7 +30,7 @@ use Rattle.why_text.specs.Down.{Down}
 use Rattle.why_lines.specs.declared.lines.downs.Causes.{Causes}
 use Rattle.why_lines.specs.Causes.{AreCauses, down_with}
 
--- A finish tells that its channel answers again exactly where that is able after it and was not before it.
+-- A finish writes that its channel responds again exactly if the channel is able after it and was not before it.
 abbrev pub FinishLaw : Type 0
 FinishLaw =
     (displays : List ℕ) (es : List Effect) (now c seq : ℕ) (answer : Reply)
@@ -45,7 +45,7 @@ StillLaw =
     → x.past ≡ (call, reply) ∷ past_of es → may_move_focus call reply ≡ false
     → step_text displays x es ≡ flat_map (line (max (moment_of call) (clock (past_of es)))) (call_words displays call reply x es)
 
--- a message tells of a pointer that goes down: it is a Down or a PointerDown
+-- a message says that a pointer goes down: it is a Down or a PointerDown
 abbrev pub says_down : Body → Bool
 says_down (MotionBody m) = is_down m.action
 says_down body = false
@@ -55,7 +55,7 @@ abbrev pub is_motion : Option Args → Bool
 is_motion (Some (MotionArgs m)) = true
 is_motion args = false
 
--- The stream of a live window gets a Down or a PointerDown from a pump that dispatches a motion exactly where the window is given a pointer
+-- The stream of a live window gets a Down or a PointerDown from a pump that dispatches a motion exactly if the window is given a pointer
 -- that goes down, or a pointer slips to it.
 abbrev pub DownLaw : Type 0
 DownLaw =

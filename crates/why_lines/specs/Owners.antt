@@ -11,6 +11,6 @@ abbrev pub answered : Option PilferRefused → Reply
 answered None = Done
 answered (Some refused) = answer_of refused
 
--- the line of a channel that answers again, where it does
+-- the line of a channel that responds again, if it does
 abbrev pub again_words : Bool → ℕ → List (List ℕ)
 again_words again c = if again then responsive_word c ∷ [] else []

@@ -1,4 +1,4 @@
--- What a pump tells.
+-- The causes of a pump.
 use Rattle.std.specs.Prelude.{ℕ, List}
 use Rattle.dispatch_calls.specs.declared.call.Call.TheVariants.{Pump}
 use Rattle.dispatch_history.specs.Effect.{Effect, past_of}

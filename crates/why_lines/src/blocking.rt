@@ -5,10 +5,10 @@ ghost use Rattle.why_lines.specs.Causes.{Has, blocked_by};
 use input_types::Pixel;
 use window_snapshot::Snapshot;
 
-/// Windows that are blocked at a place, and what says by which windows each of them is.
+/// The windows that are blocked at a position, and what finds the windows that block each of them.
 #[derive(Clone, Copy)]
 pub struct Blocked<'a> {
-    /// The mask of those that are blocked.
+    /// The mask of the blocked windows.
     pub mask: u64,
     pub windows: &'a Snapshot,
     /// The mask of the channels that the device can reach.
@@ -16,7 +16,7 @@ pub struct Blocked<'a> {
     pub at: Pixel,
 }
 
-/// The mask of the windows that block that of a channel.
+/// The mask of the windows that block the window of a channel.
 pub(crate) fn blockers(blocked: &Blocked, channel: u32) -> u64
     ensures { Has result (blocked_by blocked.now channel) }
 {

@@ -1,7 +1,7 @@
 //! The causes of a pointer that goes down, from the tables of who holds what.
 //!
 //! Two windows stand side by side, 1 on the left and 2 on the right. A finger is down on the left one, and a second one
-//! goes down on the right one, while the owner of channel 2 does not answer:
+//! goes down on the right one, while the owner of channel 2 does not respond:
 //!
 //! ```text
 //! touched 2   row split   chosen 2   spies {}   pilfering {}   given {}   mute {2}   outside {}   blocked {}

@@ -12,7 +12,7 @@ use dispatcher::Dispatcher;
 use input_types::{DisplayId, Moment};
 use std::alloc::AllocError;
 
-/// The windows that have the focus of each display, and the one that keys go to, where there are such.
+/// The window that has the focus of each display, and the window that keys go to, if any.
 #[derive(Clone, Copy)]
 pub struct Focuses {
     first: Option<u32>,
@@ -46,7 +46,7 @@ pub fn all_focused(dispatcher: &Dispatcher) -> Focuses
     }
 }
 
-/// Adds the line of a change of the focus of a display, where it changes.
+/// Adds the line of a change of the focus of a display, if it changes.
 fn add_change(
     text: &mut Vec<u8>,
     clock: Moment,
@@ -65,7 +65,7 @@ fn add_change(
     crate::lines::focus(text, clock, display, before, after)
 }
 
-/// Adds the lines of the changes of the focus, and of the window that keys go to, from one moment to another.
+/// Adds the lines of the changes of the focus, and of the window that keys go to, between two times.
 pub fn add_changes(
     text: &mut Vec<u8>,
     clock: Moment,

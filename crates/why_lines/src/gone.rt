@@ -1,4 +1,4 @@
-//! Windows that lose something to a new focus, or to a new snapshot.
+//! Windows that lose something when the focus or the snapshot changes.
 ghost use Rattle.std.specs.Prelude.{◌≡◌, List, IfOk};
 ghost use Rattle.focus_resolver.specs.Resolver.{is_at};
 ghost use Rattle.dispatch_history.specs.Effect.{Effect};
@@ -13,7 +13,7 @@ use dispatcher::Dispatcher;
 use input_types::{KeyArgs, Moment};
 use std::alloc::{AllocError, Global};
 
-/// Adds the line of a window that loses this, where it is something.
+/// Adds the line of a window that loses something; adds nothing if it loses nothing.
 pub(crate) fn add_gone(
     text: &mut Vec<u8>,
     clock: Moment,
@@ -40,14 +40,14 @@ pub(crate) fn is_at(target: Option<u32>, window: u32) -> bool
     }
 }
 
-/// The keys that a window loses of those that it holds, where keys go to this target from now on.
+/// The keys, of those that a window holds, that it loses if keys go to this target from now on.
 pub(crate) fn keys_gone(window: u32, held: &[KeyArgs], target: Option<u32>) -> &[KeyArgs]
     ensures { result.now ≡ keys_gone window held.now target }
 {
     if is_at(target, window) { &[] } else { held }
 }
 
-/// The keys that the window holds which keys go to, where there is one.
+/// The keys held by the window that keys go to; None if there is no such window.
 pub(crate) fn target_keys(
     alloc: Global,
     dispatcher: &Dispatcher,

@@ -14,7 +14,7 @@ use dispatcher::Dispatcher;
 use input_types::{KeyArgs, KeyMsg};
 use window_snapshot::mask_has;
 
-/// The window that keys go to, with the keys that it holds, each with its last message.
+/// The window that keys go to, with the keys that it holds. Each key is given as its last message.
 #[derive(Clone, Copy)]
 pub(crate) struct KeyHolder<'a> {
     pub window: u32,
@@ -35,7 +35,7 @@ fn held_by(dispatcher: &Dispatcher, window: u32) -> Option<KeyHolder<'_>>
     }
 }
 
-/// The only window that may hold keys, with those that it holds; None where there is none.
+/// The only window that may hold keys, with the keys that it holds; None if there is no such window.
 pub(crate) fn key_holder(dispatcher: &Dispatcher) -> Option<KeyHolder<'_>>
     ensures { (es : List Effect) → IsAfter es dispatcher.now → HoldKeys es result }
 {
@@ -45,7 +45,7 @@ pub(crate) fn key_holder(dispatcher: &Dispatcher) -> Option<KeyHolder<'_>>
     }
 }
 
-/// Whether two are the same key: the same scan code of the same device.
+/// Whether two keys are the same: the same scan code of the same device.
 fn same_key(key: &KeyArgs, other: &KeyArgs) -> bool
     ensures { result ≡ same_key key.now other.now }
 {
@@ -59,7 +59,7 @@ fn has_key(keys: &[KeyMsg], key: &KeyArgs) -> bool
     keys.iter().any(|message| same_key(key, &message.key))
 }
 
-/// The window of these keys, where a key is among them.
+/// The window that holds these keys, if the key is among them.
 fn window_of(holder: &KeyHolder, key: &KeyArgs) -> Option<u32>
     ensures { result
         ≡ (if list_any (λ m. same_key key.now m.key) holder.now.keys.now then Some holder.now.window else None) }
@@ -71,7 +71,7 @@ fn window_of(holder: &KeyHolder, key: &KeyArgs) -> Option<u32>
     }
 }
 
-/// The window that holds a key, where there is one.
+/// The window that holds a key, if there is one.
 pub(crate) fn holder_of(dispatcher: &Dispatcher, key: &KeyArgs) -> Option<u32>
     ensures { (es : List Effect) → IsAfter es dispatcher.now → result ≡ first_of (key_holders es key.now) }
 {
@@ -81,7 +81,7 @@ pub(crate) fn holder_of(dispatcher: &Dispatcher, key: &KeyArgs) -> Option<u32>
     }
 }
 
-/// A channel, where it is in a mask.
+/// A channel, if it is in a mask.
 fn if_able(mask: u64, channel: Option<u32>) -> Option<u32>
     ensures { result ≡ if_able (mask_has mask) channel }
 {
@@ -97,7 +97,7 @@ fn if_able(mask: u64, channel: Option<u32>) -> Option<u32>
     }
 }
 
-/// The window that is given a key that goes down: the one that keys go to, where it is able to take input.
+/// The window that is given a key that goes down: the window that keys go to, if it is able to take input.
 pub(crate) fn given_key(dispatcher: &Dispatcher) -> Option<u32>
     ensures { (es : List Effect) → IsAfter es dispatcher.now
         → result ≡ if_able (able es) (key_target (past_of es)) }

@@ -49,7 +49,7 @@ fn has_key_of(keys: &[KeyMsg], device: DeviceId) -> bool
     keys.iter().any(|message| message.key.device == device)
 }
 
-/// The mask with the window besides that holds keys, where one of them is of a device.
+/// The mask, plus the window that holds keys if one of them belongs to a device.
 fn with_keys(mask: u64, holder: &KeyHolder, device: DeviceId) -> u64
     ensures { (w : ℕ) → is_channel w ≡ true → mask_has result w
         ≡ (mask_has mask w
@@ -102,7 +102,7 @@ fn add_due(text: &mut Vec<u8>, clock: Moment, dispatcher: &Dispatcher) -> Result
     }
 }
 
-/// Whether something is due at a moment.
+/// Whether something is due at a time.
 pub(crate) fn is_due(due: Option<u64>, now: Moment) -> bool
     ensures { result ≡ is_due due now }
 {
@@ -112,7 +112,7 @@ pub(crate) fn is_due(due: Option<u64>, now: Moment) -> bool
     }
 }
 
-/// Adds the line of a repeat, where one is due and no args wait.
+/// Adds the line of a repeat, if one is due and no args wait.
 pub(crate) fn add_repeat(
     text: &mut Vec<u8>,
     clock: Moment,

@@ -1,13 +1,13 @@
-//! The lines that tell the causes of a run, one at a time: a function for each kind of line.
+//! The lines of the causes of a run: a function for each kind of line.
 //!
 //! ```text
 //! 1000000 down 1 0 100,200 touched 1 row first chosen 1 spies - pilfering - given 1 mute - outside -
 //! 1020000 up 1 0 from 1
 //! ```
 //!
-//! Each puts its line, with the clock in microseconds in front and the newline behind, at the end of a text. What the
-//! words of a line are is defined in `why_text`. Sets of windows come as masks, in which bit `channel - 1` stands for a
-//! channel, and sets of pointer ids as `Bits32`. If memory runs out, a part of the line may stand in the text.
+//! Each function appends its line to a text, with the clock in microseconds in front and the newline at the end.
+//! `why_text` defines the words of a line. Sets of windows come as masks, in which bit `channel - 1` stands for a
+//! channel, and sets of pointer ids as `Bits32`. If memory runs out, the text may end with a part of the line.
 #![tactic(auto, unfolding(text_lines::specs::Written::labeled))]
 
 mod changes;

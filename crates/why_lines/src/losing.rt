@@ -1,4 +1,4 @@
-//! What a window loses that is not able to take input any more: all that it holds.
+//! What a window loses when it is no longer able to take input: everything that it holds.
 ghost use Rattle.std.specs.Prelude.{◌≡◌, ◌++◌, ◌==◌, List, [], true, map, flat_map, if◌then◌else◌, IfOk};
 ghost use Rattle.window_snapshot.specs.Mask.{is_channel};
 ghost use Rattle.routing_rules.specs.Outgoing.{devices};
@@ -40,7 +40,7 @@ fn keys_of(alloc: Global, messages: &[KeyMsg]) -> Result<Vec<KeyArgs>, AllocErro
     messages.iter().map(|message| message.key).collect(alloc)
 }
 
-/// The keys of the window that holds some, where that is this one.
+/// The keys that a window holds, if it is the window that holds keys.
 fn keys_at(alloc: Global, holder: &KeyHolder, window: u32) -> Result<Vec<KeyArgs>, AllocError>
     ensures { IfOk result (λ v. v.items
         ≡ (if window == holder.now.window then map (λ m. m.key) holder.now.keys.now else [])) }
@@ -67,7 +67,7 @@ pub(crate) fn keys_held(
     }
 }
 
-/// Adds the line of a channel that is removed, whose window loses all that it holds.
+/// Adds the line of a removed channel, whose window loses everything that it holds.
 fn add_removed(
     text: &mut Vec<u8>,
     clock: Moment,
@@ -100,7 +100,7 @@ fn is_there(dispatcher: &Dispatcher, channel: u32) -> bool
     }
 }
 
-/// Adds the line of a removal of a channel, which is known before it is made.
+/// Adds the line of the removal of a channel. The line is known before the removal is made.
 pub(crate) fn add_removal(
     text: &mut Vec<u8>,
     clock: Moment,

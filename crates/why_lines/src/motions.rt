@@ -44,7 +44,7 @@ fn is_up(action: MotionAction) -> bool
     }
 }
 
-/// Whether what goes up with a motion is cancelled.
+/// Whether the pointer that goes up with a motion is cancelled.
 fn is_cancelled(action: MotionAction, flags: u32) -> bool
     ensures { result ≡ is_cancelled action flags }
 {
@@ -94,7 +94,7 @@ fn add_up(
     }
 }
 
-/// Adds the line of a move with which a pointer slips, where it does.
+/// Adds the line of a pointer that slips with a move, if one does.
 fn add_slip(
     text: &mut Vec<u8>,
     clock: Moment,
@@ -115,7 +115,7 @@ fn add_slip(
     }
 }
 
-/// Adds what a motion with a changed pointer tells.
+/// Adds the causes of a motion with a changed pointer.
 fn add_changed(
     text: &mut Vec<u8>,
     clock: Moment,
@@ -137,7 +137,7 @@ fn add_changed(
     }
 }
 
-/// Adds what a motion of a device tells, by what is seen before it.
+/// Adds the causes of a motion of a device, from what the rules see before it.
 pub(crate) fn add_motion(
     text: &mut Vec<u8>,
     clock: Moment,

@@ -24,8 +24,8 @@ use route_split::Touches;
 use std::alloc::AllocError;
 use window_snapshot::{Window, mask_has, mask_less, mask_without};
 
-/// Adds the line of a channel that answers again after a finish. The masks are those of the channels that were able to
-/// take input before it, and of those that are after it.
+/// Adds the line of a channel that responds again after a finish. The masks hold the channels that were able to take
+/// input before it and after it.
 pub fn add_finish(
     text: &mut Vec<u8>,
     clock: Moment,
@@ -54,7 +54,7 @@ pub(crate) fn is_live(dispatcher: &Dispatcher, channel: u32) -> bool
     }
 }
 
-/// Whether the window of a channel is among these, and a spy.
+/// Whether the window of a channel is among these windows and is a spy.
 fn has_spy(windows: &[Window], channel: u32) -> bool
     ensures { result ≡ list_any (λ v. v.channel == channel && is_spy v) windows.now }
 {
@@ -74,7 +74,7 @@ fn holding(touches: &Touches, device: DeviceId, id: u8) -> u64
     }
 }
 
-/// The mask with the windows besides that hold a pointer, where its id is in the set.
+/// The mask, plus the windows that hold a pointer if its id is in the set.
 fn with_holders(mask: u64, touches: &Touches, device: DeviceId, ids: Bits32, id: u8) -> u64
     requires { id < 32 }
     ensures { (w : ℕ) → mask_has result w
@@ -98,7 +98,7 @@ fn holders_of(touches: &Touches, device: DeviceId, ids: Bits32) -> u64
     mask
 }
 
-/// Why a pilfer is refused, where it is.
+/// Why a pilfer is refused, if it is.
 fn refusal(dispatcher: &Dispatcher, channel: u32, device: DeviceId) -> Option<PilferRefused>
     ensures value { (es : List Effect) → IsAfter es dispatcher.now
         → answered result ≡ pilfer_reply es channel device }
@@ -116,7 +116,7 @@ fn refusal(dispatcher: &Dispatcher, channel: u32, device: DeviceId) -> Option<Pi
     None
 }
 
-/// Adds the line of a pilfer that is done.
+/// Adds the line of a successful pilfer.
 fn add_done(
     text: &mut Vec<u8>,
     clock: Moment,
@@ -137,7 +137,7 @@ fn add_done(
     pilfer(text, clock, channel, device, ids, losers)
 }
 
-/// Adds what a pilfer tells, which is known before it is made.
+/// Adds the causes of a pilfer. They are known before it is made.
 pub fn add_pilfer(
     text: &mut Vec<u8>,
     clock: Moment,

@@ -15,7 +15,7 @@ use dispatcher::Dispatcher;
 use input_types::{Args, Moment};
 use std::alloc::AllocError;
 
-/// Adds what args tell that are dispatched.
+/// Adds the causes of args that are dispatched.
 fn add_args(
     text: &mut Vec<u8>,
     clock: Moment,
@@ -37,8 +37,8 @@ fn add_args(
     }
 }
 
-/// Adds what the next pump tells, which is known before it is made. The clock is the one after it: the later one of the
-/// pump's moment and the dispatcher's clock.
+/// Adds the causes of the next pump. They are known before it is made. The clock is the one after it: the later of the
+/// pump's time and the dispatcher's clock.
 pub fn add_pump(
     text: &mut Vec<u8>,
     clock: Moment,

@@ -1,13 +1,12 @@
-//! Requests of the focus, made and told at once.
-ghost use Rattle.std.specs.Prelude.{◌≡◌, List, IfOk, OnOk};
+//! Requests of the focus, made and explained.
+ghost use Rattle.std.specs.Prelude.{◌≡◌, IfOk};
 ghost use Rattle.dispatch_calls.specs.declared.call.Call.TheVariants.{FocusOn};
-ghost use Rattle.dispatch_history.specs.Effect.{Effect};
-ghost use Rattle.dispatcher.specs.Dispatching.{IsAfter, StandsFor};
 ghost use Rattle.why_lines.specs.Gone.{target_line};
 ghost use Rattle.why_lines.specs.Growing.{with_lines};
-ghost use Rattle.why_lines.specs.Explaining.{MayMake, Explains, ExplainsAfter};
+ghost use Rattle.why_lines.specs.Explaining.{ExplainsCall, MakesAsSaid};
 
-use crate::calls::take_step;
+use crate::calls::{after_call, take_step};
+use crate::error::OutOfMemory;
 use crate::focuses::{add_changes, all_focused};
 use crate::gone::{add_gone, keys_gone, target_keys};
 use crate::lines::{Lost, request};
@@ -16,7 +15,7 @@ use dispatcher::Dispatcher;
 use input_types::{DisplayId, KeyArgs, Moment};
 use std::alloc::AllocError;
 
-/// Adds the line of the window which keys went to, where it loses the keys that it holds to another target.
+/// Adds the line of the window that keys went to, if it loses its keys to another target.
 fn add_target(
     text: &mut Vec<u8>,
     clock: Moment,
@@ -37,30 +36,24 @@ fn add_target(
     }
 }
 
-/// Requests the focus of a display for a channel, or for none, and adds what that tells: the request, the keys that
-/// the window loses which keys went to, and the changes of the focus.
-pub fn focus_on(
-    text: &mut Vec<u8>,
+/// Requests the focus of a display for a channel, or for none, and adds the lines: the request, the keys that the
+/// window loses which keys went to, and the changes of the focus.
+pub(crate) fn focus_on(
+    lines: &mut Vec<u8>,
     dispatcher: &mut Dispatcher,
     now: Moment,
     display: DisplayId,
     channel: Option<u32>,
-) -> Result<(), AllocError>
-    ensures outgoing { (es : List Effect) → StandsFor es dispatcher.old
-        → OnOk result
-        (Explains (FocusOn now display channel) es dispatcher.old.displays text.old.items text.new.items
-        dispatcher.new) }
-    ensures known { (es : List Effect) → IsAfter es dispatcher.old
-        → OnOk result
-        (ExplainsAfter (FocusOn now display channel) es dispatcher.old.displays
-        text.old.items text.new.items dispatcher.new) }
-    ensures made { MayMake (FocusOn now display channel) dispatcher.old dispatcher.new }
+) -> Result<(), OutOfMemory>
+    ensures known { ExplainsCall result (FocusOn now display channel)
+        lines.old.items lines.new.items dispatcher.old dispatcher.new }
+    ensures made { MakesAsSaid result (FocusOn now display channel) dispatcher.old dispatcher.new }
 {
     let clock = now.later(dispatcher.clock());
     let before = all_focused(dispatcher);
     let target = dispatcher.target();
-    let held = target_keys(*text.allocator(), dispatcher, target)?;
-    request(text, clock, display, channel)?;
+    let held = target_keys(*lines.allocator(), dispatcher, target)?;
+    request(lines, clock, display, channel)?;
     take_step(
         dispatcher,
         &Call::FocusOn {
@@ -70,6 +63,6 @@ pub fn focus_on(
         },
     )?;
     let after = all_focused(dispatcher);
-    add_target(text, clock, target, &held, dispatcher.target())?;
-    add_changes(text, clock, &before, &after)
+    after_call(add_target(lines, clock, target, &held, dispatcher.target()))?;
+    after_call(add_changes(lines, clock, &before, &after))
 }

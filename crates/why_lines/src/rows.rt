@@ -54,7 +54,7 @@ pub(crate) fn rows_of(touches: &Touches) -> [[Bits32; 8]; 64]
     rows
 }
 
-/// The set, and where `goes` says so, without a number.
+/// The set without a number, if `goes` says so.
 fn less_one(set: Bits32, id: u8, goes: bool) -> Bits32
     requires { id < 32 }
     ensures { (i : ℕ) → is_in i result ≡ (if goes then not (i == id) && is_in i set else is_in i set) }
@@ -66,7 +66,7 @@ fn less_one(set: Bits32, id: u8, goes: bool) -> Bits32
     rest
 }
 
-/// The numbers of a set that are not in the other.
+/// The numbers of a set that are not in another set.
 fn less(set: Bits32, other: Bits32) -> Bits32
     ensures { (i : ℕ) → is_in i result ≡ (is_in i set && not (is_in i other)) }
 {
@@ -77,7 +77,7 @@ fn less(set: Bits32, other: Bits32) -> Bits32
     rest
 }
 
-/// The ids of a device in the row of a window that it does not hold any more.
+/// The ids of a device in the row of a window that the window no longer holds.
 fn ids_gone(row: &[Bits32; 8], touches: &Touches, window: u32, device: u8) -> Bits32
     requires number { is_channel window ≡ true }
     requires low { 1 ≤ device }
@@ -91,7 +91,7 @@ fn ids_gone(row: &[Bits32; 8], touches: &Touches, window: u32, device: u8) -> Bi
     )
 }
 
-/// The ids in the row of a window that it does not hold any more, of each device.
+/// The ids in the row of a window that the window no longer holds, for each device.
 pub(crate) fn row_gone(row: &[Bits32; 8], touches: &Touches, window: u32) -> [Bits32; 8]
     requires { is_channel window ≡ true }
     ensures { (held : ℕ → ℕ → Bool) → RowIs held row.now

@@ -1,16 +1,17 @@
-//! Snapshots of the windows, made and told at once.
-ghost use Rattle.std.specs.Prelude.{◌≡◌, ◌<◌, ◌+◌, ◌∷◌, List, IfOk, OnOk};
+//! Snapshots of the windows, made and explained.
+ghost use Rattle.std.specs.Prelude.{◌≡◌, ◌<◌, ◌+◌, ◌∷◌, List, IfOk};
 ghost use Rattle.dispatch_calls.specs.declared.call.Call.TheVariants.{Windows};
 ghost use Rattle.dispatch_history.specs.Effect.{Effect};
-ghost use Rattle.dispatcher.specs.Dispatching.{IsAfter, StandsFor};
+ghost use Rattle.dispatcher.specs.Dispatching.{IsAfter};
 ghost use Rattle.why_text.specs.Lines.{gone_words};
 ghost use Rattle.why_text.specs.Lost.{lost_items};
 ghost use Rattle.why_lines.specs.Gone.{gone_line};
 ghost use Rattle.why_lines.specs.Growing.{with_lines};
 ghost use Rattle.why_lines.specs.Held.{HoldThis, IsQuiet, held_keys};
-ghost use Rattle.why_lines.specs.Explaining.{MayMake, Explains, ExplainsAfter};
+ghost use Rattle.why_lines.specs.Explaining.{ExplainsCall, MakesAsSaid};
 
-use crate::calls::take_step;
+use crate::calls::{after_call, take_step};
+use crate::error::OutOfMemory;
 use crate::focuses::{add_changes, all_focused};
 use crate::gone::{add_gone, is_at, keys_gone, target_keys};
 use crate::lines::Lost;
@@ -22,7 +23,7 @@ use input_types::{KeyArgs, Moment};
 use std::alloc::AllocError;
 use window_snapshot::Snapshot;
 
-/// What windows hold before a step: the ids of the pointers of each, as a row, and the keys of the one which keys go
+/// What windows hold before a step: the pointer ids of each window, as a row, and the keys of the window that keys go
 /// to.
 #[derive(Clone, Copy)]
 struct Held<'a> {
@@ -42,7 +43,7 @@ fn held_keys<'a>(held: &Held<'a>, window: u32) -> &'a [KeyArgs]
     }
 }
 
-/// Adds the line of a window, where it loses something of what it held. That of channel 1 stands at the place 0.
+/// Adds the line of a window, if it loses something. The window of channel 1 has index 0.
 fn add_lost(
     text: &mut Vec<u8>,
     clock: Moment,
@@ -62,7 +63,7 @@ fn add_lost(
     add_gone(text, clock, window, &lost)
 }
 
-/// Adds a line for each window that loses something of what it held, by rising channel.
+/// Adds a line for each window that loses something, by rising channel.
 fn add_all_lost(
     text: &mut Vec<u8>,
     clock: Moment,
@@ -78,38 +79,33 @@ fn add_all_lost(
     Ok(())
 }
 
-/// Makes the call that says that the windows are these from now on, and adds what that tells: the windows, what each
-/// window loses that does not stay, and the changes of the focus.
-pub fn windows(
-    text: &mut Vec<u8>,
+/// Makes the call that says that the windows are these from now on, and adds its lines: the windows, what each window
+/// loses that does not stay, and the changes of the focus.
+pub(crate) fn windows(
+    lines: &mut Vec<u8>,
     dispatcher: &mut Dispatcher,
     call: &Call,
     now: Moment,
     snapshot: &Snapshot,
-) -> Result<(), AllocError>
+) -> Result<(), OutOfMemory>
     requires { call.now ≡ Windows now snapshot.now }
-    ensures outgoing { (es : List Effect) → StandsFor es dispatcher.old
-        → OnOk result
-        (Explains (Windows now snapshot.now) es dispatcher.old.displays text.old.items text.new.items dispatcher.new) }
-    ensures known { (es : List Effect) → IsAfter es dispatcher.old
-        → OnOk result
-        (ExplainsAfter (Windows now snapshot.now) es dispatcher.old.displays
-        text.old.items text.new.items dispatcher.new) }
-    ensures made { MayMake (Windows now snapshot.now) dispatcher.old dispatcher.new }
+    ensures known { ExplainsCall result (Windows now snapshot.now)
+        lines.old.items lines.new.items dispatcher.old dispatcher.new }
+    ensures made { MakesAsSaid result (Windows now snapshot.now) dispatcher.old dispatcher.new }
 {
     let clock = now.later(dispatcher.clock());
     let before = all_focused(dispatcher);
     let rows = rows_of(dispatcher.touches());
     let target = dispatcher.target();
-    let keys = target_keys(*text.allocator(), dispatcher, target)?;
+    let keys = target_keys(*lines.allocator(), dispatcher, target)?;
     let held = Held {
         rows: &rows,
         target,
         keys: &keys,
     };
-    crate::lines::windows(text, clock, snapshot.windows())?;
+    crate::lines::windows(lines, clock, snapshot.windows())?;
     take_step(dispatcher, call)?;
     let after = all_focused(dispatcher);
-    add_all_lost(text, clock, &held, dispatcher)?;
-    add_changes(text, clock, &before, &after)
+    after_call(add_all_lost(lines, clock, &held, dispatcher))?;
+    after_call(add_changes(lines, clock, &before, &after))
 }

@@ -1,4 +1,4 @@
-//! A tick: windows that did not answer in time are named, and lose all that they hold.
+//! A tick reports windows that did not respond in time. They lose everything that they hold.
 ghost use Rattle.std.specs.Prelude.{◌≡◌, ◌++◌, ℕ, List, [], ◌∷◌, true, decimal, map, if◌then◌else◌, IfOk};
 ghost use Rattle.window_snapshot.specs.Mask.{is_channel};
 ghost use Rattle.dispatch_history.specs.Effect.{Effect};
@@ -19,7 +19,7 @@ use dispatcher::Dispatcher;
 use input_types::Moment;
 use std::alloc::AllocError;
 
-/// Adds the line of a window that is named, with the number of a message; it loses all that it holds.
+/// Adds the line of a window that is reported, with the number of a message. The window loses everything that it holds.
 fn add_timeout(
     text: &mut Vec<u8>,
     clock: Moment,
@@ -41,7 +41,7 @@ fn add_timeout(
     timeout(text, clock, channel, seq, &lost)
 }
 
-/// Adds the line of a window, where its channel is due to be named.
+/// Adds the line of a window, if its channel is due to be reported.
 fn add_late(
     text: &mut Vec<u8>,
     clock: Moment,
@@ -65,7 +65,7 @@ fn add_late(
     }
 }
 
-/// Adds the lines of a tick, which are known before it is made: one for each channel that is due to be named.
+/// Adds the lines of a tick: one for each channel that is due to be reported. They are known before the tick is made.
 pub(crate) fn add_tick(
     text: &mut Vec<u8>,
     clock: Moment,

@@ -31,7 +31,7 @@ fn add_change(text: &mut Vec<u8>, before: Option<u32>, after: Option<u32>) -> Re
     add_word(text, "\n")
 }
 
-/// Adds the line of a change of the focus of a display, where it changes.
+/// Adds the line of a change of the focus of a display, if it changes.
 pub fn focus(
     text: &mut Vec<u8>,
     clock: Moment,
@@ -52,7 +52,7 @@ pub fn focus(
     add_change(text, before, after)
 }
 
-/// Adds the line of a change of the window that keys go to, where it changes.
+/// Adds the line of a change of the window that keys go to, if it changes.
 pub fn target(
     text: &mut Vec<u8>,
     clock: Moment,

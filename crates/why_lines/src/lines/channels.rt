@@ -32,7 +32,8 @@ fn add_pilfer(
     add_device(text, " ", device)
 }
 
-/// Adds the line of a pilfer by a spy that holds these ids of a device, with the mask of the windows that lose some.
+/// Adds the line of a pilfer by a spy that holds these ids of a device. The mask has the windows that lose some of
+/// them.
 pub fn pilfer(
     text: &mut Vec<u8>,
     clock: Moment,
@@ -90,7 +91,7 @@ pub fn pilfer_refused(
     add_word(text, "\n")
 }
 
-/// Adds the line of a window that is named unresponsive, with the number of its oldest unfinished message.
+/// Adds the line of a window that is reported unresponsive, with the number of its oldest unfinished message.
 pub fn timeout(
     text: &mut Vec<u8>,
     clock: Moment,
@@ -109,7 +110,7 @@ pub fn timeout(
     add_lost(text, lost)
 }
 
-/// Adds the line of a window that answers again.
+/// Adds the line of a window that responds again.
 pub fn responsive(text: &mut Vec<u8>, clock: Moment, channel: u32) -> Result<(), AllocError>
     ensures { IfOk result (λ _. text.new.items ≡ text.old.items ++ line clock (responsive_word channel)) }
 {

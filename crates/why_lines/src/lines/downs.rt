@@ -43,7 +43,7 @@ fn row_word(row: Row) -> &'static str
     }
 }
 
-/// Adds what is chosen, by which row.
+/// Adds the window that is chosen, and the row that chose it.
 fn add_choice(text: &mut Vec<u8>, causes: &Causes) -> Result<(), AllocError>
     ensures { IfOk result (λ _. text.new.items
         ≡ text.old.items ++ choice_words (down_with causes.now)) }
@@ -76,7 +76,7 @@ fn add_sets(text: &mut Vec<u8>, causes: &Causes) -> Result<(), AllocError>
     add_named(text, " outside ", causes.outside)
 }
 
-/// Adds a window that is blocked, with those that block it.
+/// Adds a blocked window, with the windows that block it.
 fn add_one_blocked(text: &mut Vec<u8>, blocked: &Blocked, channel: u32) -> Result<(), AllocError>
     ensures { IfOk result (λ _. text.new.items
         ≡ text.old.items
@@ -86,7 +86,7 @@ fn add_one_blocked(text: &mut Vec<u8>, blocked: &Blocked, channel: u32) -> Resul
     add_named(text, " by ", blockers(blocked, channel))
 }
 
-/// Adds each window that is blocked.
+/// Adds each blocked window.
 fn add_blocked(text: &mut Vec<u8>, blocked: &Blocked) -> Result<(), AllocError>
     ensures { IfOk result (λ _. text.new.items
         ≡ text.old.items

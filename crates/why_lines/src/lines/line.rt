@@ -7,7 +7,7 @@ use input_types::{DeviceId, Moment, Pixel, Pointer};
 use std::alloc::AllocError;
 use text_lines::{add_number, add_signed, add_word};
 
-/// Adds the clock, with which a line begins.
+/// Adds the clock with which a line begins.
 #[inline]
 pub(crate) fn add_clock(text: &mut Vec<u8>, clock: Moment) -> Result<(), AllocError>
     ensures { IfOk result (λ _. text.new.items ≡ text.old.items ++ (decimal clock ++ codes " ")) }
@@ -30,7 +30,7 @@ pub(crate) fn add_device(
     add_word(text, " ")
 }
 
-/// Adds a place, or a corner.
+/// Adds a position, or a corner.
 pub(crate) fn add_place(text: &mut Vec<u8>, x: i32, y: i32) -> Result<(), AllocError>
     ensures { IfOk result (λ _. text.new.items
         ≡ text.old.items ++ (signed_decimal x ++ codes "," ++ signed_decimal y)) }
@@ -40,7 +40,7 @@ pub(crate) fn add_place(text: &mut Vec<u8>, x: i32, y: i32) -> Result<(), AllocE
     add_signed(text, y)
 }
 
-/// Adds the place of a pointer.
+/// Adds the position of a pointer.
 fn add_pixel(text: &mut Vec<u8>, at: Pixel) -> Result<(), AllocError>
     ensures { IfOk result (λ _. text.new.items
         ≡ text.old.items ++ (signed_decimal at.x ++ codes "," ++ signed_decimal at.y)) }
@@ -48,7 +48,7 @@ fn add_pixel(text: &mut Vec<u8>, at: Pixel) -> Result<(), AllocError>
     add_place(text, at.x, at.y)
 }
 
-/// Adds a pointer of a device with its place, behind some words.
+/// Adds a pointer of a device with its position, behind some words.
 pub(crate) fn add_pointer(
     text: &mut Vec<u8>,
     words: &str,

@@ -14,8 +14,8 @@ use input_types::{KeyArgs, Moment};
 use std::alloc::AllocError;
 use text_lines::{add_labeled, add_word};
 
-/// What a window held and loses: of each device, that of device 1 first, the ids of its pointers, and the keys, by
-/// rising device and scan code.
+/// What a window held and loses: the pointer ids of each device, starting with device 1, and the keys, by rising device
+/// and scan code.
 #[derive(Clone, Copy)]
 pub struct Lost<'a> {
     pub ids: &'a [Bits32],
@@ -38,7 +38,7 @@ impl Lost<'_> {
     }
 }
 
-/// Adds the ids of a device behind a space, where there are some.
+/// Adds the ids of a device behind a space, if there are any.
 fn add_ids_of(text: &mut Vec<u8>, device: u64, ids: Bits32) -> Result<(), AllocError>
     ensures { IfOk result (λ _. text.new.items
         ≡ text.old.items ++ behind_spaces (ids_item device (ids_in ids))) }
@@ -79,7 +79,7 @@ fn add_keys(text: &mut Vec<u8>, keys: &[KeyArgs]) -> Result<(), AllocError>
     Ok(())
 }
 
-/// Adds what is lost, or `-` where that is nothing, behind a space, and ends the line.
+/// Adds what is lost behind a space, or `-` if nothing is, and ends the line.
 pub(crate) fn add_lost(text: &mut Vec<u8>, lost: &Lost) -> Result<(), AllocError>
     ensures { IfOk result (λ _. text.new.items
         ≡ text.old.items ++ (codes " " ++ items_word (items_of lost.now.ids.now lost.now.keys.now) ++ codes "\n")) }

@@ -30,7 +30,7 @@ pub fn slip(
     add_word(text, "\n")
 }
 
-/// Adds the windows of a mask, from which something goes, and ends the line.
+/// Adds the windows of a mask that lose something, and ends the line.
 fn add_from(text: &mut Vec<u8>, from: u64) -> Result<(), AllocError>
     ensures { IfOk result (λ _. text.new.items
         ≡ text.old.items ++ (codes " from " ++ windows_word (mask_has from) ++ codes "\n")) }
@@ -40,7 +40,7 @@ fn add_from(text: &mut Vec<u8>, from: u64) -> Result<(), AllocError>
     add_word(text, "\n")
 }
 
-/// Adds the line of a pointer that goes up, or that is found to be of a palm, by the word for that.
+/// Adds the line of a pointer that goes up or turns out to be a palm, with the word for that.
 fn add_up(
     text: &mut Vec<u8>,
     clock: Moment,
@@ -74,7 +74,7 @@ pub fn up(
     add_up(text, clock, "up ", device, id, held)
 }
 
-/// Adds the line of a pointer that is found to be of a palm, with the mask of the windows that held it.
+/// Adds the line of a pointer that turns out to be a palm, with the mask of the windows that held it.
 pub fn palm(
     text: &mut Vec<u8>,
     clock: Moment,

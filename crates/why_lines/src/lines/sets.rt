@@ -10,7 +10,7 @@ use std::alloc::AllocError;
 use text_lines::{add_labeled, add_number, add_word};
 use window_snapshot::{mask_first, mask_without};
 
-/// Adds a channel, or `-` where there is none.
+/// Adds a channel, or `-` if there is none.
 pub(crate) fn add_channel(text: &mut Vec<u8>, channel: Option<u32>) -> Result<(), AllocError>
     ensures { IfOk result (λ _. text.new.items ≡ text.old.items ++ channel_word channel) }
 {
@@ -52,7 +52,7 @@ pub(crate) fn add_windows(text: &mut Vec<u8>, mask: u64) -> Result<(), AllocErro
     add_further(text, mask_without(mask, first))
 }
 
-/// Adds a number if it is in the set, behind a comma where it is not the first. Answers whether there is still none.
+/// Adds a number if it is in the set, behind a comma unless it is the first. Returns whether none was added yet.
 fn add_if_in(text: &mut Vec<u8>, ids: Bits32, id: u8, is_first: bool) -> Result<bool, AllocError>
     requires { id < 32 }
     ensures text { IfOk result (λ _. text.new.items
@@ -80,7 +80,7 @@ pub(crate) fn add_ids(text: &mut Vec<u8>, ids: Bits32) -> Result<(), AllocError>
     Ok(())
 }
 
-/// Adds the ids of a set, or `-` where there is none.
+/// Adds the ids of a set, or `-` if there are none.
 pub(crate) fn add_id_set(text: &mut Vec<u8>, ids: Bits32) -> Result<(), AllocError>
     ensures { IfOk result (λ _. text.new.items ≡ text.old.items ++ set_word (ids_in ids)) }
 {

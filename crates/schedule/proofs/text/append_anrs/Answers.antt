@@ -1,4 +1,4 @@
--- One naming more, behind what was there.
+-- One more ANR, after what was there.
 use Rattle.std.proofs.Common.{◌∙◌, length, take, refl}
 use Rattle.stream_text.specs.StreamsHistory.{anr_lines}
 use Rattle.schedule.proofs.Written.{anr_more, taken_back}

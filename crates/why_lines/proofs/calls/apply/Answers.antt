@@ -1,12 +1,8 @@
-use Rattle.std.proofs.Common.{OnOk, sym, subst}
-use Rattle.dispatch_calls.specs.declared.call.Call.{Call}
-use Rattle.why_lines.specs.Explaining.{ExplainsAfter}
+use Rattle.dispatcher.proofs.Laws.Standing.{after_of}
+use Rattle.why_lines.proofs.Making.{sends_of}
 use Rattle.why_lines.proofs.calls.apply.Goals as goal
 
-pub returns-in-Pilfer-clause-known : goal.returns-in-Pilfer-clause-known
-returns-in-Pilfer-clause-known c =
-    λ es s.
-    subst
-    (λ (call : Call). OnOk c.pilfer.result (ExplainsAfter call es c.args.dispatcher.now.displays c.args.text.now.items c.pilfer.new.text.items c.pilfer.new.dispatcher))
-    (sym c.in-Pilfer.is)
-    (c.pilfer.ensures.known es s)
+pub returns-clause-outgoing : goal.returns-clause-outgoing
+returns-clause-outgoing c es st =
+    sends_of c.args.call.now c.explain.result es _ _ c.args.dispatcher.now c.explain.new.dispatcher st c.explain.ensures.made
+    (c.explain.ensures.known es (after_of es c.args.dispatcher.now st))

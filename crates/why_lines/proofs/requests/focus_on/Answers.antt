@@ -7,11 +7,10 @@ use Rattle.dispatch_history.specs.History.{clock}
 use Rattle.why_text.specs.Lines.{request_word}
 use Rattle.why_text.specs.Text.{focus_words}
 use Rattle.dispatcher.proofs.Made.Following.{known_so}
-use Rattle.dispatcher.proofs.Laws.Standing.{after_of}
 use Rattle.why_lines.specs.Gone.{target_keys, target_line}
 use Rattle.why_lines.specs.Growing.{with_lines}
 use Rattle.why_lines.proofs.Growing.{more_lines, one_line}
-use Rattle.why_lines.proofs.Making.{made_now, sends_of}
+use Rattle.why_lines.proofs.Making.{after_ok, made_so, written}
 use Rattle.why_lines.proofs.Refocused.{refocused}
 use Rattle.why_lines.proofs.Outgoing.{from_if, stands_lawful, sends_moved}
 use Rattle.why_lines.proofs.requests.focus_on.Goals as goal
@@ -23,7 +22,7 @@ returns-clause-known c es st =
     let y = c.args.display in
     let channel = c.args.channel in
     let call = FocusOn now y channel in
-    let text = c.args.text.now.items in
+    let text = c.args.lines.now.items in
     let t = c.later-clock.result in
     let later = c.take_step.new.dispatcher in
     let at : t ≡ max now (clock (past_of es)) = c.later-clock.ensures ∙ ap (max now) (c.clock.ensures es st) in
@@ -33,25 +32,20 @@ returns-clause-known c es st =
     let old = c.target-target.result in
     let gone = target_line old (target_keys es old) (key_target (past_of fs)) in
     let asked = request_word y channel in
-    from_if c.add_changes.result _ _
+    after_ok c.after_call-2.result c.add_changes.result _ c.after_call-2.ensures
+    (from_if c.add_changes.result _ _
     (c.add_changes.ensures (past_of es) (past_of fs) (c.all_focused-before.ensures es st) (c.all_focused-after.ensures fs p.1))
     (λ grown.
     sends_moved ds call es p.0 later t (asked ∷ gone) text c.add_changes.new.text.items p.1 c.in_ok-take_step.ensures.ok.displays_are at
     (grown
     ∙ ap (with_lines t (focus_words (past_of es) (past_of fs)))
-    (c.in_ok-add_target.ensures
+    (written c.after_call.result c.add_target.result _ _ c.after_call.ensures c.in_ok-after_call.was c.add_target.ensures
     ∙ ap₂ (λ ks o. with_lines t (target_line old ks o) c.request.new.text.items) (c.deref.ensures.value ∙ c.in_ok-held.ensures es st) (c.target.ensures fs p.1)
     ∙ ap (with_lines t gone) (c.in_ok-request.ensures ∙ one_line t asked text)
     ∙ more_lines t (asked ∷ []) gone text))
     (λ a.
     ap (λ ws. asked ∷ ws)
-    (refocused ds es now y channel p.0 old st.lawful lawful (sym (c.target-target.ensures es st)))))
+    (refocused ds es now y channel p.0 old st.lawful lawful (sym (c.target-target.ensures es st))))))
 
 pub returns-clause-made : goal.returns-clause-made
-returns-clause-made c =
-    made_now (FocusOn c.args.now c.args.display c.args.channel) c.args.dispatcher.now c.take_step.new.dispatcher c.in_ok-take_step.ensures.ok
-
-pub returns-clause-outgoing : goal.returns-clause-outgoing
-returns-clause-outgoing c es st =
-    sends_of (FocusOn c.args.now c.args.display c.args.channel) c.add_changes.result es _ _ c.args.dispatcher.now c.take_step.new.dispatcher st (returns-clause-made c)
-    (returns-clause-known c es (after_of es c.args.dispatcher.now st))
+returns-clause-made c = made_so c.after_call-2.result c.add_changes.result _ _ _ c.after_call-2.ensures c.in_ok-take_step.ensures.ok

@@ -11,11 +11,10 @@ use Rattle.route_split.specs.Tables.{holds_at}
 use Rattle.why_text.specs.Lines.{gone_words, snapshot_words}
 use Rattle.why_text.specs.Text.{focus_words, line}
 use Rattle.dispatcher.proofs.Made.Following.{known_so}
-use Rattle.dispatcher.proofs.Laws.Standing.{after_of}
 use Rattle.why_lines.specs.Growing.{with_lines}
 use Rattle.why_lines.proofs.Growing.{more_lines, one_line}
 use Rattle.why_lines.proofs.Held.{keys_there}
-use Rattle.why_lines.proofs.Making.{made_now, sends_of}
+use Rattle.why_lines.proofs.Making.{after_ok, made_so, written}
 use Rattle.why_lines.proofs.Outgoing.{from_if, sends_moved}
 use Rattle.why_lines.proofs.snapshots.windows.Goals as goal
 
@@ -25,7 +24,7 @@ returns-clause-known c es st =
     let now = c.args.now in
     let ws = c.args.snapshot.now in
     let call = Windows now ws in
-    let text = c.args.text.now.items in
+    let text = c.args.lines.now.items in
     let t = c.later-clock.result in
     let later = c.take_step.new.dispatcher in
     let at : t ≡ max now (clock (past_of es)) = c.later-clock.ensures ∙ ap (max now) (c.clock.ensures es st) in
@@ -38,7 +37,8 @@ returns-clause-known c es st =
     let shown = snapshot_words ws in
     let gone = gone_words x es in
     let lost =
-    c.in_ok-add_all_lost.ensures es x stands
+    written c.after_call.result c.add_all_lost.result _ _ c.after_call.ensures c.in_ok-after_call.was
+    (c.add_all_lost.ensures es x stands
     (record {
       rows_are = λ k low d i less.
           c.rows_of-rows.ensures k low d i less
@@ -48,8 +48,9 @@ returns-clause-known c es st =
           ap (λ ks. cond (is_at o w) ks []) (c.deref.ensures.value ∙ c.in_ok-keys.ensures es st)
           ∙ keys_there ds es w o st.lawful (sym (c.target-target.ensures es st));
     })
-    (record { no_args = refl; unnamed = λ w. refl }) in
-    from_if c.add_changes.result _ _
+    (record { no_args = refl; unnamed = λ w. refl })) in
+    after_ok c.after_call-2.result c.add_changes.result _ c.after_call-2.ensures
+    (from_if c.add_changes.result _ _
     (c.add_changes.ensures (past_of es) (past_of fs) (c.all_focused-before.ensures es st) (c.all_focused-after.ensures fs stands))
     (λ grown.
     sends_moved ds call es p.0 later t (shown ∷ gone) text c.add_changes.new.text.items stands goes.displays_are at
@@ -59,19 +60,8 @@ returns-clause-known c es st =
     ∙ ap (with_lines t gone)
     (c.in_ok-windows.ensures ∙ ap (λ vs. text ++ line t (snapshot_words vs)) c.windows.ensures.windows ∙ one_line t shown text)
     ∙ more_lines t (shown ∷ []) gone text))
-    (λ a. refl))
+    (λ a. refl)))
 
 pub returns-clause-made : goal.returns-clause-made
-returns-clause-made c =
-    made_now (Windows c.args.now c.args.snapshot.now) c.args.dispatcher.now c.take_step.new.dispatcher
+returns-clause-made c = made_so c.after_call-2.result c.add_changes.result _ _ _ c.after_call-2.ensures
     (subst (λ k. StepsOn k c.args.dispatcher.now c.take_step.new.dispatcher) c.requires c.in_ok-take_step.ensures.ok)
-
-pub returns-in_err-add_all_lost-clause-made : goal.returns-in_err-add_all_lost-clause-made
-returns-in_err-add_all_lost-clause-made c =
-    made_now (Windows c.args.now c.args.snapshot.now) c.args.dispatcher.now c.take_step.new.dispatcher
-    (subst (λ k. StepsOn k c.args.dispatcher.now c.take_step.new.dispatcher) c.requires c.in_ok-take_step.ensures.ok)
-
-pub returns-clause-outgoing : goal.returns-clause-outgoing
-returns-clause-outgoing c es st =
-    sends_of (Windows c.args.now c.args.snapshot.now) c.add_changes.result es _ _ c.args.dispatcher.now c.take_step.new.dispatcher st (returns-clause-made c)
-    (returns-clause-known c es (after_of es c.args.dispatcher.now st))

@@ -5,10 +5,9 @@ use Rattle.dispatch_history.specs.Effect.{past_of}
 use Rattle.dispatch_history.specs.Effects.{step}
 use Rattle.dispatch_history.specs.History.{clock}
 use Rattle.dispatcher.proofs.Made.Following.{known_so}
-use Rattle.dispatcher.proofs.Laws.Standing.{after_of}
 use Rattle.why_lines.specs.Owners.{again_words}
 use Rattle.why_lines.proofs.Finishing.{finish_law}
-use Rattle.why_lines.proofs.Making.{made_now, sends_of}
+use Rattle.why_lines.proofs.Making.{after_ok, made_so}
 use Rattle.why_lines.proofs.Outgoing.{from_if, stands_lawful, sends}
 use Rattle.why_lines.proofs.steps.finish.Goals as goal
 
@@ -23,11 +22,12 @@ returns-clause-known c es st =
     let at : c.later-clock.result ≡ max now (clock (past_of es)) = c.later-clock.ensures ∙ ap (max now) (c.clock.ensures es st) in
     let p = known_so _ _ _ c.in_ok-finish.ensures.ok.goes es st in
     let lawful = stands_lawful ds (step ds call p.0 es) later p.1 c.in_ok-finish.ensures.ok.goes.displays_are in
-    from_if c.add_finish.result _ _ c.add_finish.ensures
+    after_ok c.after_call.result c.add_finish.result _ c.after_call.ensures
+    (from_if c.add_finish.result _ _ c.add_finish.ensures
     (λ grown.
     sends ds call es p.0 later c.later-clock.result
     (again_words (not (mask_has c.able-before.result w) && mask_has c.able-after.result w) w)
-    c.args.text.now.items
+    c.args.lines.now.items
     c.add_finish.new.text.items
     p.1
     c.in_ok-finish.ensures.ok.goes.displays_are
@@ -37,13 +37,7 @@ returns-clause-known c es st =
     (λ a.
     ap (λ b. again_words b w)
     (ap₂ (λ x y. not x && y) (c.able-before.ensures es st w) (c.able-after.ensures (step ds call p.0 es) p.1 w))
-    ∙ sym (finish_law ds es now w seq p.0 lawful)))
+    ∙ sym (finish_law ds es now w seq p.0 lawful))))
 
 pub returns-clause-made : goal.returns-clause-made
-returns-clause-made c =
-    made_now (Finish c.args.now c.args.channel c.args.seq) c.args.dispatcher.now c.finish.new.self c.in_ok-finish.ensures.ok.goes
-
-pub returns-clause-outgoing : goal.returns-clause-outgoing
-returns-clause-outgoing c es st =
-    sends_of (Finish c.args.now c.args.channel c.args.seq) c.add_finish.result es _ _ c.args.dispatcher.now c.finish.new.self st (returns-clause-made c)
-    (returns-clause-known c es (after_of es c.args.dispatcher.now st))
+returns-clause-made c = made_so c.after_call.result c.add_finish.result _ _ _ c.after_call.ensures c.in_ok-finish.ensures.ok.goes

@@ -6,9 +6,7 @@ use Rattle.dispatch_history.specs.Reply.{pilfer_reply}
 use Rattle.dispatch_history.specs.Step.{scene}
 use Rattle.why_text.specs.Lines.{pilfer_words}
 use Rattle.dispatcher.proofs.Made.Following.{known_so}
-use Rattle.dispatcher.proofs.Laws.Standing.{after_of}
 use Rattle.why_lines.proofs.Growing.{one_line}
-use Rattle.why_lines.proofs.Making.{made_now, sends_now}
 use Rattle.why_lines.proofs.Outgoing.{sends}
 use Rattle.why_lines.proofs.steps.pilfer.Goals as goal
 
@@ -21,18 +19,12 @@ returns-clause-known c es st =
     let words = pilfer_words (pilfer_reply es w d) (scene ds es) w d in
     let at : c.later-clock.result ≡ max now (clock (past_of es)) = c.later-clock.ensures ∙ ap (max now) (c.clock.ensures es st) in
     let p = known_so _ _ _ c.in_ok-take_step.ensures.ok es st in
-    (sends ds (Pilfer now w d) es p.0 c.take_step.new.dispatcher c.later-clock.result (words ∷ []) c.args.text.now.items c.add_pilfer.new.text.items p.1
+    (sends ds (Pilfer now w d) es p.0 c.take_step.new.dispatcher c.later-clock.result (words ∷ []) c.args.lines.now.items c.add_pilfer.new.text.items p.1
     c.in_ok-take_step.ensures.ok.displays_are
     at
     refl
-    (c.in_ok-add_pilfer.ensures es st ∙ one_line c.later-clock.result words c.args.text.now.items)
+    (c.in_ok-add_pilfer.ensures es st ∙ one_line c.later-clock.result words c.args.lines.now.items)
     (λ a. ap (λ r. pilfer_words r (scene ds es) w d ∷ []) (sym a)))
 
 pub returns-clause-made : goal.returns-clause-made
-returns-clause-made c =
-    made_now (Pilfer c.args.now c.args.channel c.args.device) c.args.dispatcher.now c.take_step.new.dispatcher c.in_ok-take_step.ensures.ok
-
-pub returns-clause-outgoing : goal.returns-clause-outgoing
-returns-clause-outgoing c es st =
-    sends_now (Pilfer c.args.now c.args.channel c.args.device) es _ _ c.args.dispatcher.now c.take_step.new.dispatcher st (returns-clause-made c)
-    (returns-clause-known c es (after_of es c.args.dispatcher.now st))
+returns-clause-made c = c.in_ok-take_step.ensures.ok

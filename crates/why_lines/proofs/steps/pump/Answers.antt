@@ -3,9 +3,7 @@ use Rattle.dispatch_calls.specs.declared.call.Call.TheVariants.{Pump}
 use Rattle.dispatch_history.specs.Effect.{past_of}
 use Rattle.dispatch_history.specs.History.{clock}
 use Rattle.dispatcher.proofs.Made.Following.{known_so}
-use Rattle.dispatcher.proofs.Laws.Standing.{after_of}
 use Rattle.why_lines.specs.Pumping.{pump_words}
-use Rattle.why_lines.proofs.Making.{made_now, sends_now}
 use Rattle.why_lines.proofs.Outgoing.{answered_words, sends}
 use Rattle.why_lines.proofs.steps.pump.Goals as goal
 
@@ -15,7 +13,7 @@ returns-clause-known c es st =
     let now = c.args.now in
     let at : c.later-clock.result ≡ max now (clock (past_of es)) = c.later-clock.ensures ∙ ap (max now) (c.clock.ensures es st) in
     let p = known_so _ _ _ c.in_ok-pump.ensures.ok.goes es st in
-    (sends ds (Pump now) es p.0 c.pump.new.self c.later-clock.result (pump_words ds now es) c.args.text.now.items c.add_pump.new.text.items p.1
+    (sends ds (Pump now) es p.0 c.pump.new.self c.later-clock.result (pump_words ds now es) c.args.lines.now.items c.add_pump.new.text.items p.1
     c.in_ok-pump.ensures.ok.goes.displays_are
     at
     refl
@@ -23,10 +21,4 @@ returns-clause-known c es st =
     (λ a. ap (answered_words ds (Pump now) es) (sym a)))
 
 pub returns-clause-made : goal.returns-clause-made
-returns-clause-made c =
-    made_now (Pump c.args.now) c.args.dispatcher.now c.pump.new.self c.in_ok-pump.ensures.ok.goes
-
-pub returns-clause-outgoing : goal.returns-clause-outgoing
-returns-clause-outgoing c es st =
-    sends_now (Pump c.args.now) es _ _ c.args.dispatcher.now c.pump.new.self st (returns-clause-made c)
-    (returns-clause-known c es (after_of es c.args.dispatcher.now st))
+returns-clause-made c = c.in_ok-pump.ensures.ok.goes

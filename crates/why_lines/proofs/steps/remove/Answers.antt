@@ -8,11 +8,10 @@ use Rattle.dispatch_history.specs.Reply.{reply_to}
 use Rattle.why_text.specs.Lines.{removed_words}
 use Rattle.why_text.specs.Text.{focus_words}
 use Rattle.dispatcher.proofs.Made.Following.{known_so}
-use Rattle.dispatcher.proofs.Laws.Standing.{after_of}
 use Rattle.why_lines.specs.Growing.{with_lines}
 use Rattle.why_lines.proofs.AllLost.{remove_loses}
 use Rattle.why_lines.proofs.Growing.{one_line}
-use Rattle.why_lines.proofs.Making.{made_now, sends_of}
+use Rattle.why_lines.proofs.Making.{after_ok, made_so}
 use Rattle.why_lines.proofs.Outgoing.{from_if, stands_lawful, sends_moved}
 use Rattle.why_lines.proofs.steps.remove.Goals as goal
 
@@ -22,7 +21,7 @@ returns-clause-known c es st =
     let now = c.args.now in
     let w = c.args.channel in
     let call = Remove now w in
-    let text = c.args.text.now.items in
+    let text = c.args.lines.now.items in
     let t = c.later-clock.result in
     let later = c.remove.new.self in
     let at : t ≡ max now (clock (past_of es)) = c.later-clock.ensures ∙ ap (max now) (c.clock.ensures es st) in
@@ -31,20 +30,15 @@ returns-clause-known c es st =
     let x = effect_of ds call p.0 (args_of call p.0 (inbound (past_of es))) es in
     let lawful = stands_lawful ds fs later p.1 c.in_ok-remove.ensures.ok.goes.displays_are in
     let words = removed_words (reply_to es call) x es w in
-    from_if c.add_changes.result _ _
+    after_ok c.after_call.result c.add_changes.result _ c.after_call.ensures
+    (from_if c.add_changes.result _ _
     (c.add_changes.ensures (past_of es) (past_of fs) (c.all_focused-before.ensures es st) (c.all_focused-after.ensures fs p.1))
     (λ grown.
     sends_moved ds call es p.0 later t (words ∷ []) text c.add_changes.new.text.items p.1 c.in_ok-remove.ensures.ok.goes.displays_are at
     (grown
     ∙ ap (with_lines t (focus_words (past_of es) (past_of fs)))
     (c.in_ok-add_removal.ensures es x st (remove_loses ds es now w p.0 lawful) ∙ one_line t words text))
-    (λ a. ap (λ r. removed_words r x es w ∷ []) (sym a)))
+    (λ a. ap (λ r. removed_words r x es w ∷ []) (sym a))))
 
 pub returns-clause-made : goal.returns-clause-made
-returns-clause-made c =
-    made_now (Remove c.args.now c.args.channel) c.args.dispatcher.now c.remove.new.self c.in_ok-remove.ensures.ok.goes
-
-pub returns-clause-outgoing : goal.returns-clause-outgoing
-returns-clause-outgoing c es st =
-    sends_of (Remove c.args.now c.args.channel) c.add_changes.result es _ _ c.args.dispatcher.now c.remove.new.self st (returns-clause-made c)
-    (returns-clause-known c es (after_of es c.args.dispatcher.now st))
+returns-clause-made c = made_so c.after_call.result c.add_changes.result _ _ _ c.after_call.ensures c.in_ok-remove.ensures.ok.goes

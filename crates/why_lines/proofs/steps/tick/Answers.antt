@@ -9,8 +9,6 @@ use Rattle.dispatcher.specs.DispatchTables.Dues.{due_moment}
 use Rattle.why_text.specs.Lines.{timeout_words}
 use Rattle.why_text.specs.Words.{channels_that}
 use Rattle.dispatcher.proofs.Made.Following.{known_so}
-use Rattle.dispatcher.proofs.Laws.Standing.{after_of}
-use Rattle.why_lines.proofs.Making.{made_now, sends_now}
 use Rattle.why_lines.proofs.Ticking.{named_loses, named_words}
 use Rattle.why_lines.proofs.Outgoing.{stands_lawful, sends}
 use Rattle.why_lines.proofs.steps.tick.Goals as goal
@@ -26,7 +24,7 @@ returns-clause-known c es st =
     let p = known_so _ _ _ c.in_ok-take_step.ensures.ok es st in
     (let x = effect_of ds call p.0 (args_of call p.0 (inbound (past_of es))) es in
     let lawful = stands_lawful ds (step ds call p.0 es) later p.1 c.in_ok-take_step.ensures.ok.displays_are in
-    sends ds call es p.0 later t (map (timeout_words x es) (channels_that (λ w. is_due (due_moment es w) t))) c.args.text.now.items c.add_tick.new.text.items p.1
+    sends ds call es p.0 later t (map (timeout_words x es) (channels_that (λ w. is_due (due_moment es w) t))) c.args.lines.now.items c.add_tick.new.text.items p.1
     c.in_ok-take_step.ensures.ok.displays_are
     at
     refl
@@ -36,10 +34,4 @@ returns-clause-known c es st =
     ∙ named_words ds es now x p.0 st.lawful a))
 
 pub returns-clause-made : goal.returns-clause-made
-returns-clause-made c =
-    made_now (Tick c.args.now) c.args.dispatcher.now c.take_step.new.dispatcher c.in_ok-take_step.ensures.ok
-
-pub returns-clause-outgoing : goal.returns-clause-outgoing
-returns-clause-outgoing c es st =
-    sends_now (Tick c.args.now) es _ _ c.args.dispatcher.now c.take_step.new.dispatcher st (returns-clause-made c)
-    (returns-clause-known c es (after_of es c.args.dispatcher.now st))
+returns-clause-made c = c.in_ok-take_step.ensures.ok

@@ -1,4 +1,4 @@
--- None of them was let go.
+-- None of them was released.
 use Rattle.std.proofs.Common.{◌∙◌, ap, drop, sym, subst}
 use Rattle.dispatch_history.specs.Due.{anrs}
 use Rattle.schedule.specs.State.{HasWith}

@@ -1,7 +1,8 @@
 -- One call more.
-use Rattle.std.proofs.Common.{refl, sym, subst}
+use Rattle.std.proofs.Common.{refl, sym, ap, ◌∙◌, subst}
 use Rattle.schedule.specs.State.{HasWith, ScheduleState}
 use Rattle.schedule.proofs.Stepping.{has_step}
+use Rattle.dispatcher.specs.Access.{gone}
 use Rattle.schedule.specs.More.{ComesTo}
 use Rattle.schedule.proofs.schedule.Schedule.apply.Goals as goal
 
@@ -13,10 +14,22 @@ returns-in-Ok-clause-after c = λ how plan es h never next.
     refl next
     c.saturating_add-self-inside.ensures
 
-pub returns-in-Ok-clause-more : goal.returns-in-Ok-clause-more
-returns-in-Ok-clause-more c = λ es k.
-    c.apply_call.ensures.more es (subst (λ (s : ScheduleState). ComesTo es s.dispatcher) (sym c.self.view_is) k)
+pub returns-in-Ok-clause-kept : goal.returns-in-Ok-clause-kept
+returns-in-Ok-clause-kept c =
+    record {
+      gone = λ k low. c.apply_call.ensures.gone k low ∙ ap (λ (s : ScheduleState). gone s.dispatcher k) c.self.view_is;
+      more = record {
+        on = λ es k. c.apply_call.ensures.more es (subst (λ (s : ScheduleState). ComesTo es s.dispatcher) (sym c.self.view_is) k);
+        latest = ap (λ (s : ScheduleState). s.latest) c.self.view_is;
+      };
+    }
 
-pub returns-in-Err-clause-more : goal.returns-in-Err-clause-more
-returns-in-Err-clause-more c = λ es k.
-    c.apply_call.ensures.more es (subst (λ (s : ScheduleState). ComesTo es s.dispatcher) (sym c.self.view_is) k)
+pub returns-in-Err-clause-kept : goal.returns-in-Err-clause-kept
+returns-in-Err-clause-kept c =
+    record {
+      gone = λ k low. c.apply_call.ensures.gone k low ∙ ap (λ (s : ScheduleState). gone s.dispatcher k) c.self.view_is;
+      more = record {
+        on = λ es k. c.apply_call.ensures.more es (subst (λ (s : ScheduleState). ComesTo es s.dispatcher) (sym c.self.view_is) k);
+        latest = ap (λ (s : ScheduleState). s.latest) c.self.view_is;
+      };
+    }

@@ -12,8 +12,11 @@ pub returns-in_err-done-clause-gone : goal.returns-in_err-done-clause-gone
 returns-in_err-done-clause-gone c = λ k low. ap (λ d. gone d k) (c.in_err-done.ensures.err ∙ ap (λ (s : ScheduleState). s.dispatcher) c.self.view_is)
 
 pub returns-in_err-done-clause-more : goal.returns-in_err-done-clause-more
-returns-in_err-done-clause-more c = λ es k.
-    subst (ComesTo es) (sym c.in_err-done.ensures.err) (subst (λ (s : ScheduleState). ComesTo es s.dispatcher) (sym c.self.view_is) k)
+returns-in_err-done-clause-more c =
+    record {
+      on = λ es k. subst (ComesTo es) (sym c.in_err-done.ensures.err) (subst (λ (s : ScheduleState). ComesTo es s.dispatcher) (sym c.self.view_is) k);
+      latest = ap (λ (s : ScheduleState). s.latest) c.self.view_is;
+    }
 
 pub returns-then-not-done-clause-undone : goal.returns-then-not-done-clause-undone
 returns-then-not-done-clause-undone c = λ undone.
@@ -38,8 +41,11 @@ returns-then-not-done-clause-gone c = λ k low.
     ap (λ d. gone d k) (c.in_ok-done.ensures.undone c.if-not-done.true ∙ ap (λ (s : ScheduleState). s.dispatcher) c.self.view_is)
 
 pub returns-then-not-done-clause-more : goal.returns-then-not-done-clause-more
-returns-then-not-done-clause-more c = λ es k.
-    subst (ComesTo es) (sym (c.in_ok-done.ensures.undone c.if-not-done.true)) (subst (λ (s : ScheduleState). ComesTo es s.dispatcher) (sym c.self.view_is) k)
+returns-then-not-done-clause-more c =
+    record {
+      on = λ es k. subst (ComesTo es) (sym (c.in_ok-done.ensures.undone c.if-not-done.true)) (subst (λ (s : ScheduleState). ComesTo es s.dispatcher) (sym c.self.view_is) k);
+      latest = ap (λ (s : ScheduleState). s.latest) c.self.view_is;
+    }
 
 pub returns-clause-done : goal.returns-clause-done
 returns-clause-done c = λ how plan es h made.
@@ -62,6 +68,10 @@ returns-clause-gone c = λ k low.
     two.second_made.gone_are k low ∙ two.first_made.gone_are k low ∙ ap (λ (s : ScheduleState). gone s.dispatcher k) c.self.view_is
 
 pub returns-clause-more : goal.returns-clause-more
-returns-clause-more c = λ es k.
-    two_more es _ _ (Notify c.args.now c.args.args.now) (Pump c.args.now) (c.in_ok-done.ensures.done c.if-not-done.false)
-    (subst (λ (s : ScheduleState). ComesTo es s.dispatcher) (sym c.self.view_is) k)
+returns-clause-more c =
+    record {
+      on = λ es k.
+          two_more es _ _ (Notify c.args.now c.args.args.now) (Pump c.args.now) (c.in_ok-done.ensures.done c.if-not-done.false)
+          (subst (λ (s : ScheduleState). ComesTo es s.dispatcher) (sym c.self.view_is) k);
+      latest = ap (λ (s : ScheduleState). s.latest) c.self.view_is;
+    }

@@ -4,9 +4,11 @@ use Rattle.std.proofs.lemmas.Bool.{and_parts}
 use Rattle.std.proofs.lemmas.Bool.Decides.{nat_tests}
 use Rattle.dispatch_history.specs.Effect.{stream}
 use Rattle.dispatcher.specs.Access.{gone, is_opened}
+use Rattle.schedule.specs.More.{ComesTo}
 use Rattle.schedule.specs.State.{HasWith, ScheduleState}
 use Rattle.schedule.proofs.Counting.{opened_bounds}
 use Rattle.schedule.proofs.Releases.{gone_few}
+use Rattle.schedule.proofs.More.{same_more}
 use Rattle.schedule.proofs.Removing.{drains}
 use Rattle.schedule.proofs.schedule.Schedule.drain.Goals as goal
 
@@ -38,3 +40,17 @@ returns-then-not-has_messages-clause-all c = λ how plan es h there_is.
     let all : length (stream es c.args.channel) ≤ gone c.self.inside.dispatcher c.args.channel = grind (arith, nat_tests) in
     let done : gone c.self.inside.dispatcher c.args.channel ≡ length (stream es c.args.channel) = omega (arith, few, all) in
     subst (λ (s : ScheduleState). gone s.dispatcher c.args.channel ≡ length (stream es c.args.channel)) c.self.view_is done
+
+pub returns-clause-more : goal.returns-clause-more
+returns-clause-more c =
+    record {
+      on = λ es k. same_more es _ _ c.let_each_go.ensures.displays c.let_each_go.ensures.known (subst (λ (s : ScheduleState). ComesTo es s.dispatcher) (sym c.self.view_is) k);
+      latest = ap (λ (s : ScheduleState). s.latest) c.self.view_is;
+    }
+
+pub returns-in_err-left-clause-more : goal.returns-in_err-left-clause-more
+returns-in_err-left-clause-more c =
+    record {
+      on = λ es k. subst (λ (s : ScheduleState). ComesTo es s.dispatcher) (sym c.self.view_is) k;
+      latest = ap (λ (s : ScheduleState). s.latest) c.self.view_is;
+    }

@@ -5,8 +5,10 @@ use Rattle.dispatch_history.specs.Effect.{past_of, stream}
 use Rattle.dispatch_history.specs.History.{live}
 use Rattle.dispatcher.specs.Access.{gone}
 use Rattle.schedule.specs.Released.{KeepsUnfinished}
+use Rattle.schedule.specs.More.{ComesTo}
 use Rattle.schedule.specs.State.{HasWith, ScheduleState}
 use Rattle.schedule.proofs.Counting.{count_of, counts_are, counts_opened}
+use Rattle.schedule.proofs.More.{same_more}
 use Rattle.schedule.proofs.Removing.{drains}
 use Rattle.schedule.proofs.schedule.Schedule.drain_removed.Goals as goal
 
@@ -35,3 +37,17 @@ returns-clause-keeps c = λ how plan es h left k low idle.
       | inl e ↦ subst (λ n. gone c.let_all_go.new.self n ≡ length (stream es n)) (sym e) (c.let_all_go.ensures.gone es before.stands there_is dead)
       | inr ne ↦ c.let_all_go.ensures.others k low (ne_eqb k c.args.channel ne) ∙ left_before k low idle
     ]
+
+pub returns-clause-more : goal.returns-clause-more
+returns-clause-more c =
+    record {
+      on = λ es k. same_more es _ _ c.let_all_go.ensures.displays c.let_all_go.ensures.known (subst (λ (s : ScheduleState). ComesTo es s.dispatcher) (sym c.self.view_is) k);
+      latest = ap (λ (s : ScheduleState). s.latest) c.self.view_is;
+    }
+
+pub returns-in_err-left-clause-more : goal.returns-in_err-left-clause-more
+returns-in_err-left-clause-more c =
+    record {
+      on = λ es k. subst (λ (s : ScheduleState). ComesTo es s.dispatcher) (sym c.self.view_is) k;
+      latest = ap (λ (s : ScheduleState). s.latest) c.self.view_is;
+    }

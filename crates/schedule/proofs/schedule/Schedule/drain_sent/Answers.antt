@@ -6,6 +6,7 @@ use Rattle.dispatch_history.specs.History.{opened}
 use Rattle.dispatcher.specs.Access.{gone}
 use Rattle.schedule.specs.State.{HasWith, counted}
 use Rattle.schedule.proofs.Counting.{opened_between}
+use Rattle.schedule.proofs.More.{goes_twice}
 use Rattle.schedule.proofs.Released.{sum_low}
 use Rattle.schedule.proofs.schedule.Schedule.drain_sent.Goals as goal
 
@@ -25,8 +26,7 @@ loop-place-preserved c =
           ];
       calls = c.drain.ensures.calls ∙ c.loop-place.invariant.calls;
       messages = omega (arith, c.loop-place.invariant.messages, c.drain.ensures.messages);
-      more = λ es k. c.drain.ensures.more es (c.loop-place.invariant.more es k);
-      latest = c.drain.ensures.latest ∙ c.loop-place.invariant.latest;
+      more = goes_twice c.drain.ensures.more c.loop-place.invariant.more;
     }
 
 pub returns-clause-counted : goal.returns-clause-counted

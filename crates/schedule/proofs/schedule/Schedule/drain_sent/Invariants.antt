@@ -3,7 +3,7 @@ use Rattle.dispatch_history.specs.Effect.{Effect, stream}
 use Rattle.dispatch_history.specs.Plan.{Plan}
 use Rattle.dispatcher.specs.Access.{gone}
 use Rattle.schedule.specs.declared.keeping.Lines.{Lines}
-use Rattle.schedule.specs.More.{ComesTo}
+use Rattle.schedule.specs.Making.{GoesOnAt}
 use Rattle.schedule.specs.State.{HasWith}
 use Rattle.schedule.proofs.schedule.Schedule.drain_sent.Given as goal
 
@@ -16,6 +16,5 @@ invariant-loop-place l =
           → gone l.self.dispatcher c ≡ length (stream es c);
       calls : l.self.calls ≡ l.initial.self.calls;
       messages : l.initial.self.messages ≤ l.self.messages;
-      more : (es : List Effect) → ComesTo es l.initial.self.dispatcher → ComesTo es l.self.dispatcher;
-      latest : l.self.latest ≡ l.initial.self.latest;
+      more : GoesOnAt l.initial.self l.self;
     }

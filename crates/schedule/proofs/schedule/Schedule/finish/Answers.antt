@@ -39,7 +39,7 @@ rounds-preserved c =
                 (subst (Advances how (plan_of c.args.plan.now) c.later-end.result h.0.es c.rounds.self c.advance.new.self) c.if-not-branch.false (c.in_ok-advance.ensures.after how h.0.es h.0.ready overdue)),
             h.1,
           );
-      more = λ es k. c.advance.ensures.more es (c.rounds.invariant.more es k);
+      more = λ es k. c.advance.ensures.more.on es (c.rounds.invariant.more es k);
     }
 
 pub returns-clause-completed : goal.returns-clause-completed

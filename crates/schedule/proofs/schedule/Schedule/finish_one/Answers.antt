@@ -4,10 +4,9 @@ use Rattle.dispatch_calls.specs.declared.call.Call.TheVariants.{Finish}
 use Rattle.dispatch_history.specs.Effect.{past_of}
 use Rattle.dispatch_history.specs.Ordered.{scripted}
 use Rattle.dispatcher.proofs.Made.Following.{known_so}
-use Rattle.schedule.specs.More.{ComesTo}
-use Rattle.schedule.specs.State.{HasWith, ScheduleState}
+use Rattle.schedule.specs.State.{HasWith}
 use Rattle.schedule.proofs.Caused.{applies_silent}
-use Rattle.schedule.proofs.More.{one_more}
+use Rattle.schedule.proofs.More.{stayed, stepped}
 use Rattle.schedule.proofs.Stepping.{has_step}
 use Rattle.schedule.proofs.schedule.Schedule.finish_one.Goals as goal
 
@@ -25,11 +24,8 @@ returns-in-Ok-clause-after c = λ how plan es h.
     refl (let n : c.self.inside.next ≡ 0 + scripted (past_of es) = omega (arith, before.next_is) in n)
     c.saturating_add-self-inside.ensures
 
-pub returns-in-Ok-clause-more : goal.returns-in-Ok-clause-more
-returns-in-Ok-clause-more c = λ es k.
-    one_more es _ _ (Finish c.args.now c.args.channel c.args.seq) c.in-Ok.ensures.ok.goes.displays_are (known_so _ _ _ c.in-Ok.ensures.ok.goes)
-    (subst (λ (s : ScheduleState). ComesTo es s.dispatcher) (sym c.self.view_is) k)
+pub returns-in-Ok-clause-kept : goal.returns-in-Ok-clause-kept
+returns-in-Ok-clause-kept c = stepped (Finish c.args.now c.args.channel c.args.seq) _ _ _ c.self.view_is refl c.in-Ok.ensures.ok.goes
 
-pub returns-in-Err-clause-more : goal.returns-in-Err-clause-more
-returns-in-Err-clause-more c = λ es k.
-    subst (ComesTo es) (sym c.in-Err.ensures.err) (subst (λ (s : ScheduleState). ComesTo es s.dispatcher) (sym c.self.view_is) k)
+pub returns-in-Err-clause-kept : goal.returns-in-Err-clause-kept
+returns-in-Err-clause-kept c = stayed _ _ _ c.self.view_is refl c.in-Err.ensures.err

@@ -1,5 +1,5 @@
 -- The args are handed in and dispatched, and all that is published is received.
-use Rattle.std.proofs.Common.{refl}
+use Rattle.std.proofs.Common.{refl, ◌∙◌}
 use Rattle.dispatch_calls.specs.declared.call.Call.TheVariants.{Notify, Pump}
 use Rattle.dispatch_history.specs.Legal.{answered}
 use Rattle.schedule.proofs.Going.{first_call, second_call, clock_twice, ready_again, on_ok_both}
@@ -25,3 +25,10 @@ returns-clause-after c = λ how plan es r.
     on_ok_both c.receive_all.result _ _ _ (c.receive_all.ensures.after how plan two both) (c.receive_all.ensures.released how plan two both left)
     (λ all released.
     ready_again how plan es two c.receive_all.new.self (second_call plan.displays es one (Pump t) first refl (clock_twice t es plan.displays a)) r.opened_is all released)
+
+pub returns-clause-more : goal.returns-clause-more
+returns-clause-more c =
+    record {
+      on = λ es k. c.receive_all.ensures.more es (c.notify_and_pump.ensures.more.on es k);
+      latest = c.receive_all.ensures.latest ∙ c.notify_and_pump.ensures.more.latest;
+    }

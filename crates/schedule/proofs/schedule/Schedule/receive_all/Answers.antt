@@ -36,10 +36,10 @@ loop-rest-preserved c =
           goes_on how plan es _ c.loop-rest.rest c.mask_without-rest.result c.mask_first-channel.result c.loop-rest.self c.drain.new.self m
           c.mask_first-channel.ensures.range.0 c.mask_first-channel.ensures.has c.mask_first-channel.ensures.first c.mask_without-rest.ensures.channels
           (c.in_ok-drain.ensures.after how plan gs took) (c.in_ok-drain.ensures.all how plan gs took there_is)
-          (λ n low ne. c.drain.ensures.others n low ne ∙ c.receive.ensures.gone n low);
+          (λ n low ne. c.drain.ensures.others n low ne ∙ c.receive.ensures.kept.gone n low);
       calls = omega (arith, c.loop-rest.invariant.calls, c.in_ok-receive.ensures.calls, c.drain.ensures.calls);
-      more = λ es k. c.drain.ensures.more es (c.receive.ensures.more es (c.loop-rest.invariant.more es k));
-      latest = c.drain.ensures.latest ∙ c.receive.ensures.latest ∙ c.loop-rest.invariant.latest;
+      more = λ es k. c.drain.ensures.more.on es (c.receive.ensures.kept.more.on es (c.loop-rest.invariant.more es k));
+      latest = c.drain.ensures.more.latest ∙ c.receive.ensures.kept.more.latest ∙ c.loop-rest.invariant.latest;
     }
 
 pub returns-clause-after : goal.returns-clause-after

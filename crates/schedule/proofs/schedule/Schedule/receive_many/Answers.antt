@@ -3,6 +3,7 @@ use Rattle.std.proofs.Common.{◌≡◌, ◌∙◌, replicate, subst, arith}
 use Rattle.dispatch_history.specs.Ordered.{extend}
 use Rattle.dispatch_calls.specs.declared.call.Call.TheVariants.{Receive}
 use Rattle.schedule.specs.State.{HasWith}
+use Rattle.schedule.proofs.More.{goes_twice}
 use Rattle.schedule.proofs.Receiving.{one_receive_more}
 use Rattle.schedule.proofs.schedule.Schedule.receive_many.Goals as goal
 
@@ -12,10 +13,9 @@ loop-preserved c =
       has = λ how plan es h.
           subst (λ fs. HasWith how plan fs c.receive_next.new.self) (one_receive_more plan.displays es c.args.channel c.loop.counter)
           (c.in_ok-receive_next.ensures.after how plan _ (c.loop.invariant.has how plan es h));
-      gone = λ k low. c.receive_next.ensures.gone k low ∙ c.loop.invariant.gone k low;
+      gone = λ k low. c.receive_next.ensures.kept.gone k low ∙ c.loop.invariant.gone k low;
       calls = omega (arith, c.loop.invariant.calls, c.in_ok-receive_next.ensures.calls);
-      more = λ es k. c.receive_next.ensures.more es (c.loop.invariant.more es k);
-      latest = c.receive_next.ensures.latest ∙ c.loop.invariant.latest;
+      more = goes_twice c.receive_next.ensures.kept.more c.loop.invariant.more;
     }
 
 pub returns-clause-after : goal.returns-clause-after

@@ -6,7 +6,7 @@ use Rattle.dispatcher.specs.Access.{gone as gone_of}
 use Rattle.dispatch_history.specs.Plan.{Plan}
 use Rattle.dispatch_history.specs.Ordered.{extend}
 use Rattle.schedule.specs.declared.keeping.Lines.{Lines}
-use Rattle.schedule.specs.More.{ComesTo}
+use Rattle.schedule.specs.Making.{GoesOnAt}
 use Rattle.schedule.specs.State.{HasWith}
 use Rattle.schedule.proofs.schedule.Schedule.receive_many.Given as goal
 
@@ -17,6 +17,5 @@ invariant-loop l =
       has : (how : Lines) (plan : Plan) (es : List Effect) → HasWith how plan es l.initial.self → HasWith how plan (extend plan.displays es (replicate l.counter (Receive l.channel))) l.self;
       gone : (c : ℕ) → 1 ≤ c → gone_of l.self.dispatcher c ≡ gone_of l.initial.self.dispatcher c;
       calls : l.initial.self.calls ≤ l.self.calls;
-      more : (es : List Effect) → ComesTo es l.initial.self.dispatcher → ComesTo es l.self.dispatcher;
-      latest : l.self.latest ≡ l.initial.self.latest;
+      more : GoesOnAt l.initial.self l.self;
     }

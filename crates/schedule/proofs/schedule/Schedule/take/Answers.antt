@@ -21,7 +21,7 @@ returns-then-not-branch-2-clause-ran c = λ how given r.
     let over : is_over c.rounds.self ≡ false = sym c.is_too_long-in-rounds.ensures.over ∙ c.rounds-test.true in
     let none = subst (Advances how plan c.args.moment h.es c.rounds.self c.advance.new.self) c.if-not-branch-2.true (c.in_ok-advance.ensures.after how h.es h.ready overdue) in
     on_ok c.hand_in.result _ _ (c.hand_in.ensures.after how plan h.es (subst (ReadyWith how plan h.es) (sym none.1) h.ready))
-    (λ ready. coming_done how plan given a c.rounds.self c.advance.new.self c.hand_in.new.self h over none ready (c.hand_in.ensures.latest ∙ c.advance.ensures.latest))
+    (λ ready. coming_done how plan given a c.rounds.self c.advance.new.self c.hand_in.new.self h over none ready (c.hand_in.ensures.more.latest ∙ c.advance.ensures.more.latest))
 
 pub quick-init : goal.quick-init
 quick-init c =
@@ -55,8 +55,8 @@ quick-preserved c =
           let overdue : NoneOverdue (plan_of c.args.plan.now).channels h.es = run_overdue c.args.plan.now ((given ++ a ∷ []) ++ []) h.es c.requires (h.rounds []) in
           let over : is_over c.quick.self ≡ false = sym c.is_too_long.ensures.over ∙ c.quick-test.true in
           coming_next how plan given a c.quick.self c.finish_at_once.new.self h over
-          (c.in_ok-finish_at_once.ensures.after how h.es h.ready overdue c.if-not-branch.false) c.finish_at_once.ensures.latest;
-      more = λ es k. c.finish_at_once.ensures.more es (c.quick.invariant.more es k);
+          (c.in_ok-finish_at_once.ensures.after how h.es h.ready overdue c.if-not-branch.false) c.finish_at_once.ensures.more.latest;
+      more = λ es k. c.finish_at_once.ensures.more.on es (c.quick.invariant.more es k);
     }
 
 pub rounds-init : goal.rounds-init
@@ -81,8 +81,8 @@ rounds-preserved c =
           let overdue : NoneOverdue (plan_of c.args.plan.now).channels h.es = run_overdue c.args.plan.now ((given ++ a ∷ []) ++ []) h.es c.requires (h.rounds []) in
           let over : is_over c.rounds.self ≡ false = sym c.is_too_long-in-rounds.ensures.over ∙ c.rounds-test.true in
           coming_next how plan given a c.rounds.self c.advance.new.self h over
-          (subst (Advances how plan c.args.moment h.es c.rounds.self c.advance.new.self) c.if-not-branch-2.false (c.in_ok-advance.ensures.after how h.es h.ready overdue)) c.advance.ensures.latest;
-      more = λ es k. c.advance.ensures.more es (c.rounds.invariant.more es k);
+          (subst (Advances how plan c.args.moment h.es c.rounds.self c.advance.new.self) c.if-not-branch-2.false (c.in_ok-advance.ensures.after how h.es h.ready overdue)) c.advance.ensures.more.latest;
+      more = λ es k. c.advance.ensures.more.on es (c.rounds.invariant.more es k);
     }
 
 pub returns-clause-ran : goal.returns-clause-ran

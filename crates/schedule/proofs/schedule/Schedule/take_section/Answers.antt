@@ -1,4 +1,4 @@
--- The head, the lines, what was not let go, and the end; the other channels keep theirs.
+-- The head, the lines, what was not released, and the end; the other channels keep theirs.
 use Rattle.std.proofs.Common.{◌≡◌, ◌∙◌, ◌++◌, drop, reverse, refl, sym, ap, subst, arith, append_assoc}
 use Rattle.std.specs.Option.{unwrap_or}
 use Rattle.std.proofs.lemmas.Result.{on_ok_weaker, on_err_weaker}
