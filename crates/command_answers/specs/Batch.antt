@@ -20,7 +20,7 @@ abbrev pub file_answer : Result (List ℕ) FileError → Answer
 file_answer (Ok text) = Ok text
 file_answer (Err error) = Err (file_refused error)
 
--- the batches of a stream file's bytes, with a frame every so many microseconds
+-- the batches of a stream file's bytes, with a frame every `frame` microseconds
 abbrev pub BatchAnswers : ℕ → List ℕ → Answer → Type 0
 BatchAnswers frame bytes a = file_answer (batched frame bytes) ≡ a
 

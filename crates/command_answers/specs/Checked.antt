@@ -21,8 +21,8 @@ use Rattle.command_answers.specs.Given.{given_limit}
 abbrev pub line_limit : ℕ
 line_limit = 8000000
 
--- The streams text of a session after these calls; or the line that requests a step that does not exist, which
--- follows the first line of the file and so many others.
+-- The streams text of a session after these calls; or the line that requests a step that does not exist. That line
+-- comes after the first line of the file and this many others.
 abbrev pub steps_judged : PlanData → Result (List Call) ℕ → Answer
 steps_judged plan (Ok calls) = Ok (streams_text (names_of plan) (run (device_displays plan.devices) (reverse calls)))
 steps_judged plan (Err before) = Err (no_step (before + 2))

@@ -11,7 +11,7 @@ use Rattle.stream_judge.specs.Sections.{messages_at, messages_left, sections_at,
 use Rattle.command_files.specs.Refused.{Refused, bad_stream_line}
 use Rattle.command_answers.specs.Verify.{said}
 
--- the number of a line, where its message may not come behind those of its section
+-- the number of a line, if its message is not allowed after those of its section
 abbrev pub break_at : List Told → ℕ → StreamLine → Option ℕ
 break_at past n (Channel id) = None
 break_at past n (Message m) = if is_well_formed (m ∷ past) then None else Some n

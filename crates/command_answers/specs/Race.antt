@@ -38,7 +38,7 @@ pub record AsksForAll (plan : Plan) (order : List OrderLine) : Type 0 where
   pub args : readers order ≡ length plan.cooked
   pub steps : (l : ℕ) → 1 ≤ l → l ≤ 8 → steps_in l order ≡ length (calls_of_lane l plan.steps)
 
--- the last calls of a history settle it: pumps until nothing waits, one tick, and receives from each of so many
+-- the last calls of a history settle it: pumps until nothing waits, one tick, and receives from each of these
 -- channels until it has nothing more
 abbrev pub EndsSettling : (finishing : ℕ → Bool) → (channels : ℕ) → History → Type 0
 EndsSettling finishing channels h =

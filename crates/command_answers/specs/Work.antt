@@ -24,7 +24,7 @@ abbrev pub head : ℕ → ℕ → ℕ → List ℕ
 head seed packets args =
     codes "work " ++ (decimal seed ++ (codes " " ++ (decimal packets ++ (codes "\nargs " ++ (decimal args ++ codes "\n")))))
 
--- the last lines of the sections of so many channels, the first of which has number k
+-- the last lines of the sections of this many channels, the first of which has number k
 abbrev pub end_lines : ℕ → ℕ → List Effect → List ℕ
 end_lines k zero es = []
 end_lines k (suc n) es = end_of k (unwrap_or (counts es k) unopened) ++ end_lines (k + 1) n es

@@ -1,7 +1,7 @@
 //! `batch`: the batches that an application receives from a stream file, frame by frame.
-ghost use Rattle.std.specs.Prelude.{◌≡◌, ◌≤◌, IsTrue, None, Ok, Err, IfOk, IfErr};
+ghost use Rattle.std.specs.Prelude.{◌≡◌, ◌≤◌, Ok, Err, IfOk, IfErr};
 ghost use Rattle.command_words.specs.Command.{batch};
-ghost use Rattle.command_files.specs.Keeping.{KeepsFiles};
+ghost use Rattle.command_files.specs.Keeping.{CanRead, KeepsFiles};
 ghost use Rattle.command_files.specs.Refusing.{RefusesSo};
 ghost use Rattle.command_answers.specs.Batch.{BatchAnswers, refusal_of_file};
 ghost use Rattle.command_answers.specs.Program.{Answers, RefusesCommand};
@@ -13,7 +13,7 @@ use std::alloc::Global;
 use stream_judge::FileError;
 use text_pieces::Pieces;
 
-/// Why a stream file that is judged is refused.
+/// Why a stream file is refused.
 fn stream_refusal(error: FileError) -> Refusal
     ensures { result ≡ refusal_of_file error }
 {
@@ -44,8 +44,7 @@ pub fn answer_batch<F: Files>(
     name: &str,
     frame: u64,
 ) -> Result<Pieces, Refusal>
-    requires lends { IsTrue (F.lends files.old name.now) }
-    requires free { F.lent files.old ≡ None }
+    requires files { CanRead F.Files files.old name.now }
     requires frame { 1 ≤ frame }
     ensures ok { IfOk result (λ text. Answers (F.entries files.old) (F.readings files.old) (F.readings files.new)
         (batch name.now frame) (Ok text)) }

@@ -1,5 +1,5 @@
 //! `check`: the run of an order that a file gives.
-ghost use Rattle.std.specs.Prelude.{◌≡◌, ◌+◌, ◌<◌, ◌≤◌, List, None, Ok, Err, length, map, IsTrue, IfOk, IfErr};
+ghost use Rattle.std.specs.Prelude.{◌≡◌, ◌+◌, ◌<◌, ◌≤◌, List, Ok, Err, length, map, IsTrue, IfOk, IfErr};
 ghost use Rattle.raw_events.specs.declared.event.RawEvent.{RawEvent as Event};
 ghost use Rattle.given_run.specs.Planned.{cooked_of};
 ghost use Rattle.schedule.specs.Planned.{IsRun};
@@ -7,8 +7,8 @@ ghost use Rattle.session_plan.specs.Plan.{PlanData};
 ghost use Rattle.session_plan.specs.Valid.{IsPlan};
 ghost use Rattle.command_words.specs.Command.{check};
 ghost use Rattle.command_words.specs.CommandView.{recorded_view};
-ghost use Rattle.command_files.specs.Inputs.{AreAccepted, IsAccepted};
-ghost use Rattle.command_files.specs.Keeping.{KeepsFiles};
+ghost use Rattle.command_files.specs.Inputs.{AreAccepted};
+ghost use Rattle.command_files.specs.Keeping.{CanReadBoth, KeepsFiles};
 ghost use Rattle.command_answers.specs.Program.{Answers, RefusesCommand};
 ghost use Rattle.session_plan.specs.View.{plan_view};
 ghost use Rattle.command_answers.specs.Plan.{IsPlanned};
@@ -32,10 +32,10 @@ use std::alloc::Global;
 use stream_text::Order;
 use text_pieces::Pieces;
 
-/// The most lines of an order that is made.
+/// The most lines of an order.
 const LINE_LIMIT: usize = 8000000;
 
-/// The refusal of an order that has so many lines before one whose step does not exist.
+/// The refusal of an order in which this many lines come before one whose args or step do not exist.
 fn no_step(before: usize) -> Refusal
     requires { before < 8000000 }
     ensures { result ≡ Refusal.Order (OrderError.NoStep (before + 2)) }
@@ -99,11 +99,9 @@ pub fn answer_check<F: Files>(
     names: Recorded<'_>,
     order: &str,
 ) -> Result<Pieces, Refusal>
-    requires session { IsTrue (F.lends files.old names.session.now) }
-    requires events { IsAccepted (F.entries files.old) names.session.now → IsTrue (F.lends files.old names.events.now) }
+    requires files { CanReadBoth F.Files files.old names.session.now names.events.now }
     requires order { AreAccepted (F.entries files.old) names.session.now names.events.now
         → IsTrue (F.lends files.old order.now) }
-    requires free { F.lent files.old ≡ None }
     ensures ok { IfOk result (λ text. Answers (F.entries files.old) (F.readings files.old) (F.readings files.new)
         (check (recorded_view names.entry) order.now) (Ok text)) }
     ensures err { IfErr result (RefusesCommand (F.entries files.old) (F.readings files.old) (F.readings files.new)

@@ -1,10 +1,10 @@
 //! `compare`: whether actual streams agree with expected ones, within tolerances of time and position, and by how much.
-ghost use Rattle.std.specs.Prelude.{◌≡◌, [], ◌∷◌, ⊤, IsTrue, None, Ok, Err, IfOk, IfErr};
+ghost use Rattle.std.specs.Prelude.{◌≡◌, [], ◌∷◌, ⊤, IsTrue, Ok, Err, IfOk, IfErr};
 ghost use Rattle.command_words.specs.Command.{compare};
 ghost use Rattle.compare_text.specs.Indexed.{file_sections};
 ghost use Rattle.command_files.specs.Inputs.{IsWant, sections_said, stream_limit};
 ghost use Rattle.command_files.specs.Judged.{by_log};
-ghost use Rattle.command_files.specs.Keeping.{KeepsFiles};
+ghost use Rattle.command_files.specs.Keeping.{CanRead, KeepsFiles};
 ghost use Rattle.command_files.specs.Logged.{Logged, RefusesBy};
 ghost use Rattle.command_files.specs.Refused.{refused, stream_line};
 ghost use Rattle.command_files.specs.Refusing.{RefusesSo};
@@ -85,8 +85,7 @@ fn answer_got<F: Files>(
     name: &str,
     rule: Comparison,
 ) -> Result<Pieces, Refusal>
-    requires lends { IsTrue (F.lends files.old name.now) }
-    requires free { F.lent files.old ≡ None }
+    requires files { CanRead F.Files files.old name.now }
     ensures ok { IfOk result (λ text. Logged (F.entries files.old) (F.readings files.old) (F.readings files.new)
         ((name.now, stream_limit) ∷ [])
         (λ rs. GotAnswers name.now rule (by_log rs) want.now (Ok text))) }
@@ -111,9 +110,8 @@ pub fn answer_compare<F: Files>(
     got: &str,
     rule: Comparison,
 ) -> Result<Pieces, Refusal>
-    requires want { IsTrue (F.lends files.old want.now) }
+    requires want { CanRead F.Files files.old want.now }
     requires got { IsWant (F.entries files.old) want.now → IsTrue (F.lends files.old got.now) }
-    requires free { F.lent files.old ≡ None }
     ensures ok { IfOk result (λ text. Answers (F.entries files.old) (F.readings files.old) (F.readings files.new)
         (compare want.now got.now rule.tolerance.us rule.tolerance.pixels rule.want_channel rule.got_channel
         rule.each_move) (Ok text)) }

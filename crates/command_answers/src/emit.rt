@@ -1,8 +1,8 @@
 //! `emit`: what a device did in a channel of a stream file, as a recording.
-ghost use Rattle.std.specs.Prelude.{◌≡◌, ◌≤◌, IsTrue, None, Ok, Err, IfOk, IfErr, length};
+ghost use Rattle.std.specs.Prelude.{◌≡◌, ◌≤◌, Ok, Err, IfOk, IfErr, length};
 ghost use Rattle.command_words.specs.Command.{emit};
 ghost use Rattle.emit_text.specs.Emitted.{IsNotSpent};
-ghost use Rattle.command_files.specs.Keeping.{KeepsFiles};
+ghost use Rattle.command_files.specs.Keeping.{CanRead, KeepsFiles};
 ghost use Rattle.command_files.specs.Refusing.{RefusesSo};
 ghost use Rattle.command_answers.specs.Emit.{EmitAnswers, refusal_of_emit};
 ghost use Rattle.command_answers.specs.Program.{Answers, RefusesCommand};
@@ -53,8 +53,7 @@ pub fn answer_emit<F: Files>(
     channel: u32,
     device: DeviceId,
 ) -> Result<Pieces, Refusal>
-    requires lends { IsTrue (F.lends files.old name.now) }
-    requires free { F.lent files.old ≡ None }
+    requires files { CanRead F.Files files.old name.now }
     ensures ok { IfOk result (λ text. Answers (F.entries files.old) (F.readings files.old) (F.readings files.new)
         (emit name.now channel device) (Ok text)) }
     ensures err { IfErr result (RefusesCommand (F.entries files.old) (F.readings files.old) (F.readings files.new)

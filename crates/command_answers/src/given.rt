@@ -16,7 +16,7 @@ use std::alloc::{AllocError, Global};
 /// The most args of a recording that is checked or raced.
 pub(crate) const GIVEN_LIMIT: usize = 20000;
 
-/// Appends some args, with their moment.
+/// Appends some args, with their time.
 fn push_all(all: &mut Vec<Cooked>, moment: Moment, args: &[Args]) -> Result<(), AllocError>
     ensures { OnOk result (map cooked_of all.new.items ≡ map cooked_of all.old.items ++ map
         (λ a. record { moment = moment; args = a }) args.now) }
@@ -27,7 +27,7 @@ fn push_all(all: &mut Vec<Cooked>, moment: Moment, args: &[Args]) -> Result<(), 
     Ok(())
 }
 
-/// What the devices deliver for some events.
+/// What the devices give for some events.
 pub(crate) fn cook_events(
     alloc: Global,
     events: &[RawEvent],

@@ -1,12 +1,11 @@
 //! `hover`: what the windows of a session are sent for a mouse.
-ghost use Rattle.std.specs.Prelude.{◌≡◌, IsTrue, None, Ok, IfOk, IfErr};
+ghost use Rattle.std.specs.Prelude.{◌≡◌, Ok, IfOk, IfErr};
 ghost use Rattle.command_words.specs.Command.{hover};
 ghost use Rattle.command_words.specs.CommandView.{recorded_view};
 ghost use Rattle.raw_events.specs.Line.{known};
 ghost use Rattle.session_plan.specs.Valid.{IsPlan};
 ghost use Rattle.session_plan.specs.View.{plan_view};
-ghost use Rattle.command_files.specs.Inputs.{IsAccepted};
-ghost use Rattle.command_files.specs.Keeping.{KeepsFiles};
+ghost use Rattle.command_files.specs.Keeping.{CanReadBoth, KeepsFiles};
 ghost use Rattle.command_answers.specs.Hover.{HoverAnswers, mouse_alone};
 ghost use Rattle.command_answers.specs.Program.{Answers, RefusesCommand};
 
@@ -47,9 +46,7 @@ pub fn answer_hover<F: Files>(
     names: Recorded<'_>,
     mouse: &str,
 ) -> Result<Pieces, Refusal>
-    requires session { IsTrue (F.lends files.old names.session.now) }
-    requires events { IsAccepted (F.entries files.old) names.session.now → IsTrue (F.lends files.old names.events.now) }
-    requires free { F.lent files.old ≡ None }
+    requires files { CanReadBoth F.Files files.old names.session.now names.events.now }
     ensures ok { IfOk result (λ text. Answers (F.entries files.old) (F.readings files.old) (F.readings files.new)
         (hover (recorded_view names.entry) mouse.now) (Ok text)) }
     ensures err { IfErr result (RefusesCommand (F.entries files.old) (F.readings files.old) (F.readings files.new)

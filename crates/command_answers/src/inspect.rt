@@ -1,5 +1,5 @@
 //! `inspect`: what a session and a recording contain; the recording is read in pieces.
-ghost use Rattle.std.specs.Prelude.{◌≡◌, ℕ, List, [], ◌∷◌, ⊤, IsTrue, None, Ok, Err, IfOk, IfErr};
+ghost use Rattle.std.specs.Prelude.{ℕ, List, [], ◌∷◌, ⊤, Ok, Err, IfOk, IfErr};
 ghost use Rattle.command_words.specs.Command.{inspect};
 ghost use Rattle.command_words.specs.CommandView.{recorded_view};
 ghost use Rattle.recording_counts.specs.RecordingTally.{IsCounted};
@@ -8,9 +8,9 @@ ghost use Rattle.session_plan.specs.View.{plan_view};
 ghost use Rattle.command_files.specs.Cooked.{plans_of};
 ghost use Rattle.command_files.specs.Counting.{HasTaken};
 ghost use Rattle.command_files.specs.Devices.{devices_of};
-ghost use Rattle.command_files.specs.Inputs.{IsAccepted, lined_file, recording_limit};
+ghost use Rattle.command_files.specs.Inputs.{lined_file, recording_limit};
 ghost use Rattle.command_files.specs.Judged.{Behind, by_log};
-ghost use Rattle.command_files.specs.Keeping.{KeepsFiles};
+ghost use Rattle.command_files.specs.Keeping.{CanRead, CanReadBoth, KeepsFiles};
 ghost use Rattle.command_files.specs.Logged.{Logged, RefusesBy};
 ghost use Rattle.command_files.specs.Refusing.{RefusesSo};
 ghost use Rattle.command_answers.specs.Inspect.{CountsAnswer, InspectAnswers, session_view};
@@ -65,8 +65,7 @@ fn counted_text<F: Files>(
     session: &KeyedPlan,
     name: &str,
 ) -> Result<Pieces, Refusal>
-    requires lends { IsTrue (F.lends files.old name.now) }
-    requires free { F.lent files.old ≡ None }
+    requires files { CanRead F.Files files.old name.now }
     requires valid { IsPlan session.now.plan }
     ensures ok { IfOk result
         (λ text. Logged (F.entries files.old) (F.readings files.old) (F.readings files.new)
@@ -93,9 +92,7 @@ pub fn answer_inspect<F: Files>(
     files: &mut F,
     names: Recorded<'_>,
 ) -> Result<Pieces, Refusal>
-    requires session { IsTrue (F.lends files.old names.session.now) }
-    requires events { IsAccepted (F.entries files.old) names.session.now → IsTrue (F.lends files.old names.events.now) }
-    requires free { F.lent files.old ≡ None }
+    requires files { CanReadBoth F.Files files.old names.session.now names.events.now }
     ensures ok { IfOk result (λ text. Answers (F.entries files.old) (F.readings files.old) (F.readings files.new)
         (inspect (recorded_view names.entry)) (Ok text)) }
     ensures err { IfErr result (RefusesCommand (F.entries files.old) (F.readings files.old) (F.readings files.new)

@@ -1,7 +1,7 @@
 //! `judge`: whether each section of a stream file is whole, and if not, why.
-ghost use Rattle.std.specs.Prelude.{◌≡◌, IsTrue, None, Ok, Err, IfOk, IfErr};
+ghost use Rattle.std.specs.Prelude.{◌≡◌, Ok, Err, IfOk, IfErr};
 ghost use Rattle.command_words.specs.Command.{judge};
-ghost use Rattle.command_files.specs.Keeping.{KeepsFiles};
+ghost use Rattle.command_files.specs.Keeping.{CanRead, KeepsFiles};
 ghost use Rattle.command_files.specs.Refusing.{RefusesSo};
 ghost use Rattle.command_answers.specs.Judge.{JudgeAnswers, refusal_of_judge};
 ghost use Rattle.command_answers.specs.Program.{Answers, RefusesCommand};
@@ -36,8 +36,7 @@ fn judged(alloc: Global, bytes: &[u8]) -> Result<Pieces, Refusal>
 
 /// Reads and judges a stream file, and makes the text.
 pub fn answer_judge<F: Files>(alloc: Global, files: &mut F, name: &str) -> Result<Pieces, Refusal>
-    requires lends { IsTrue (F.lends files.old name.now) }
-    requires free { F.lent files.old ≡ None }
+    requires files { CanRead F.Files files.old name.now }
     ensures ok { IfOk result (λ text. Answers (F.entries files.old) (F.readings files.old) (F.readings files.new)
         (judge name.now) (Ok text)) }
     ensures err { IfErr result (RefusesCommand (F.entries files.old) (F.readings files.old) (F.readings files.new)

@@ -1,8 +1,8 @@
-//! What each command answers: the text that it writes, or why it refuses. One file a command, and one file of specs/
-//! with its definition; `specs/Program.antt` puts them together.
+//! What each command answers: the text that it writes, or why it refuses. Each command has a file here and a file of
+//! specs/ with its definition; `specs/Program.antt` puts them together.
 //!
-//! A recording in which tracking id 45 comes at (540, 1200) and goes again, on a display with the window `main` over
-//! it, gives with `replay`
+//! A finger with tracking id 45 goes down at (540, 1200) and up again, on a display with the window `main` over it. For
+//! this recording `replay` prints
 //!
 //! ```text
 //! channel 1 main

@@ -13,7 +13,7 @@ use schedule::{Channel, Plan, Step as RunStep};
 use session_plan::{ChannelPlan, Plan as Session, Step};
 use std::alloc::{AllocError, Global};
 
-/// A session as the plan of a run, with the names of its channels.
+/// The plan of a session's run, with the names of its channels.
 #[derive(Drop)]
 pub(crate) struct Planned {
     pub(crate) channels: Vec<ChannelPlan>,

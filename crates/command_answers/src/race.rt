@@ -1,5 +1,5 @@
 //! `race`: the run of a session by threads, in the order that they take.
-ghost use Rattle.std.specs.Prelude.{◌≡◌, ◌+◌, ◌≤◌, ℕ, List, None, Ok, Err, length, map, IsTrue, IfOk, IfErr};
+ghost use Rattle.std.specs.Prelude.{◌≡◌, ◌+◌, ◌≤◌, ℕ, List, Ok, Err, length, map, IfOk, IfErr};
 ghost use Rattle.command_words.specs.Command.{race};
 ghost use Rattle.command_words.specs.CommandView.{recorded_view};
 ghost use Rattle.raw_events.specs.declared.event.RawEvent.{RawEvent as Event};
@@ -9,8 +9,7 @@ ghost use Rattle.replay_actors.specs.Starts.{EndBy, RunsRaces};
 ghost use Rattle.session_plan.specs.Valid.{IsPlan};
 ghost use Rattle.session_plan.specs.View.{channel_view, plan_view};
 ghost use Rattle.replay_actors.specs.Session.{channel_of, step_of};
-ghost use Rattle.command_files.specs.Inputs.{IsAccepted};
-ghost use Rattle.command_files.specs.Keeping.{KeepsFiles};
+ghost use Rattle.command_files.specs.Keeping.{CanReadBoth, KeepsFiles};
 ghost use Rattle.command_files.specs.Planned.{given};
 ghost use Rattle.command_answers.specs.Program.{Answers, RefusesCommand};
 ghost use Rattle.command_answers.specs.Race.{RaceAnswers, Races, finishes_from};
@@ -33,7 +32,7 @@ use std::sync::Wait;
 use text_pieces::Pieces;
 use window_snapshot::mask_with;
 
-/// The channels whose owners finish what they receive, as a mask, if the first channel has this number.
+/// The mask of the channels whose owners finish what they receive. The first channel of the list has this number.
 fn finishing(number: u32, channels: &[ChannelPlan]) -> u64
     requires { (1 ≤ number) × (number + length channels.now ≤ 65) }
     ensures { (c : ℕ) → mask_has result c ≡ finishes_from number (map channel_of (map channel_view channels.now)) c }
@@ -51,7 +50,7 @@ fn finishing(number: u32, channels: &[ChannelPlan]) -> u64
     }
 }
 
-/// The args with their moments, as pairs.
+/// The args with their times, as pairs.
 fn pairs(alloc: Global, all: Vec<Cooked>) -> Result<Vec<(Moment, Args)>, AllocError>
     ensures { IfOk result (λ v. v.items ≡ map (λ a. (a.moment, a.args)) all.items) }
 {
@@ -168,9 +167,7 @@ pub fn answer_race<R: Wait, F: Files, K: FnOnce(Start) -> Result<RaceEnd, AllocE
     names: Recorded<'_>,
     runner: K,
 ) -> Result<Pieces, Refusal>
-    requires session { IsTrue (F.lends files.old names.session.now) }
-    requires events { IsAccepted (F.entries files.old) names.session.now → IsTrue (F.lends files.old names.events.now) }
-    requires free { F.lent files.old ≡ None }
+    requires files { CanReadBoth F.Files files.old names.session.now names.events.now }
     requires runs { RunsRaces (K.pre runner) (λ s end. K.post runner s (Ok end)) }
     ensures ok { IfOk result (λ text. Answers (F.entries files.old) (F.readings files.old) (F.readings files.new)
         (race (recorded_view names.entry)) (Ok text)) }

@@ -1,9 +1,8 @@
 //! `replay`: what each window is sent in the run of a session and of a recording.
-ghost use Rattle.std.specs.Prelude.{◌≡◌, IsTrue, None, Ok, IfOk, IfErr};
+ghost use Rattle.std.specs.Prelude.{Ok, IfOk, IfErr};
 ghost use Rattle.command_words.specs.Command.{replay};
 ghost use Rattle.command_words.specs.CommandView.{recorded_view};
-ghost use Rattle.command_files.specs.Inputs.{IsAccepted};
-ghost use Rattle.command_files.specs.Keeping.{KeepsFiles};
+ghost use Rattle.command_files.specs.Keeping.{CanReadBoth, KeepsFiles};
 ghost use Rattle.command_answers.specs.Program.{Answers, RefusesCommand};
 
 use crate::running::{Sending, answer_run};
@@ -19,9 +18,7 @@ pub fn answer_replay<F: Files>(
     files: &mut F,
     names: Recorded<'_>,
 ) -> Result<Pieces, Refusal>
-    requires session { IsTrue (F.lends files.old names.session.now) }
-    requires events { IsAccepted (F.entries files.old) names.session.now → IsTrue (F.lends files.old names.events.now) }
-    requires free { F.lent files.old ≡ None }
+    requires files { CanReadBoth F.Files files.old names.session.now names.events.now }
     ensures ok { IfOk result (λ text. Answers (F.entries files.old) (F.readings files.old) (F.readings files.new)
         (replay (recorded_view names.entry)) (Ok text)) }
     ensures err { IfErr result (RefusesCommand (F.entries files.old) (F.readings files.old) (F.readings files.new)

@@ -1,5 +1,5 @@
 //! The run of a session and of a recording that is read in pieces, as `replay` and `why` answer it.
-ghost use Rattle.std.specs.Prelude.{◌≡◌, ℕ, ◌≤◌, List, [], ◌∷◌, ⊤, map, length, IsTrue, None, Ok, Err, IfOk, IfErr};
+ghost use Rattle.std.specs.Prelude.{◌≡◌, ℕ, ◌≤◌, List, [], ◌∷◌, ⊤, map, length, Ok, Err, IfOk, IfErr};
 ghost use Rattle.command_words.specs.CommandView.{recorded_view};
 ghost use Rattle.dispatch_history.specs.Effect.{Effect, past_of};
 ghost use Rattle.dispatch_history.specs.History.{opened};
@@ -12,9 +12,9 @@ ghost use Rattle.session_plan.specs.View.{channel_view, plan_view};
 ghost use Rattle.schedule.specs.Planned.{IsRun, plan_of};
 ghost use Rattle.schedule.specs.State.{CompletedWith, HasWith};
 ghost use Rattle.command_files.specs.Devices.{devices_of};
-ghost use Rattle.command_files.specs.Inputs.{IsAccepted, lines_judged, recording_limit};
+ghost use Rattle.command_files.specs.Inputs.{lines_judged, recording_limit};
 ghost use Rattle.command_files.specs.Judged.{Behind, by_log};
-ghost use Rattle.command_files.specs.Keeping.{KeepsFiles};
+ghost use Rattle.command_files.specs.Keeping.{CanRead, CanReadBoth, KeepsFiles};
 ghost use Rattle.command_files.specs.Logged.{Logged, RefusesBy};
 ghost use Rattle.command_files.specs.Planned.{given, script_of};
 ghost use Rattle.command_files.specs.Recorded.{HasRead};
@@ -36,7 +36,7 @@ use session_plan::{ChannelPlan, Plan as Session};
 use std::alloc::{AllocError, Global};
 use text_pieces::Pieces;
 
-/// Which text is written for a run.
+/// Which text a run writes.
 #[derive(Clone, Copy)]
 pub(crate) enum Sending {
     /// What each window is sent.
@@ -46,7 +46,7 @@ pub(crate) enum Sending {
 }
 
 impl Sending {
-    /// The lines that a run keeps for this kind of text.
+    /// The lines that a run keeps for this text.
     fn lines(self) -> Lines
         ensures { result ≡ lines_of self }
     {
@@ -100,7 +100,7 @@ fn sent_text(
     }
 }
 
-/// The text of a run that is done, unless the run became too long.
+/// The text of a finished run, unless the run became too long.
 fn done_text(
     alloc: Global,
     channels: &[ChannelPlan],
@@ -157,8 +157,7 @@ fn recording_text<F: Files>(
     name: &str,
     sending: Sending,
 ) -> Result<Pieces, Refusal>
-    requires lends { IsTrue (F.lends files.old name.now) }
-    requires free { F.lent files.old ≡ None }
+    requires files { CanRead F.Files files.old name.now }
     requires run { IsRun begun.plan }
     requires few { length begun.channels.items ≤ 64 }
     ensures ok { (p : PlanData) → BeginsWith (lines_of sending) p begun → IfOk result
@@ -193,9 +192,7 @@ pub(crate) fn answer_run<F: Files>(
     names: Recorded<'_>,
     sending: Sending,
 ) -> Result<Pieces, Refusal>
-    requires session { IsTrue (F.lends files.old names.session.now) }
-    requires events { IsAccepted (F.entries files.old) names.session.now → IsTrue (F.lends files.old names.events.now) }
-    requires free { F.lent files.old ≡ None }
+    requires files { CanReadBoth F.Files files.old names.session.now names.events.now }
     ensures ok { IfOk result (λ text. SaysOf sending (F.entries files.old) (F.readings files.old)
         (F.readings files.new) (recorded_view names.entry) (Ok text)) }
     ensures err { IfErr result (StopsOf sending (F.entries files.old) (F.readings files.old) (F.readings files.new)

@@ -12,7 +12,7 @@ use session_plan::ChannelPlan;
 use std::alloc::{AllocError, Global};
 use text_pieces::Pieces;
 
-/// Judges the sections of all channels out of a run.
+/// Takes the sections of all channels out of a run, and appends them.
 fn add_sections(
     alloc: Global,
     schedule: &mut Schedule,

@@ -1,12 +1,12 @@
 //! `verify`: how many channels and messages a stream file has, if it is well-formed.
-ghost use Rattle.std.specs.Prelude.{◌≡◌, ◌+◌, ◌^◌, ◌<◌, List, ◌∷◌, Ok, Err, None, IsTrue, IfOk, IfErr, OnOk};
+ghost use Rattle.std.specs.Prelude.{◌≡◌, ◌+◌, ◌^◌, ◌<◌, List, ◌∷◌, Ok, Err, None, IfOk, IfErr, OnOk};
 ghost use Rattle.command_words.specs.Command.{verify};
 ghost use Rattle.command_answers.specs.Program.{Answers, RefusesCommand};
 ghost use Rattle.command_answers.specs.Verify.{StreamAnswers};
 ghost use Rattle.std.specs.Option.{option_or};
 ghost use Rattle.input_types.specs.declared.message.Message.{Message as Told};
 ghost use Rattle.command_answers.specs.Judging.{Knows, Judges, break_at};
-ghost use Rattle.command_files.specs.Keeping.{KeepsFiles};
+ghost use Rattle.command_files.specs.Keeping.{CanRead, KeepsFiles};
 ghost use Rattle.command_files.specs.Refusing.{RefusesSo};
 ghost use Rattle.command_answers.specs.Verify.{said, verdict};
 
@@ -22,9 +22,9 @@ use text_pieces::Pieces;
 /// What is known about a stream file after some of its lines.
 #[derive(Drop)]
 struct Judge {
-    /// That of the open section, up to the first break.
+    /// The verifier of the open section, up to the first break.
     verifier: Verifier,
-    /// The line of the first message that may not come at its place.
+    /// The line of the first message that is not allowed where it stands.
     broken: Option<u64>,
     channels: u64,
     messages: u64,
@@ -42,7 +42,7 @@ impl Model for Judge {
 impl Judge {
     ghost use Rattle.std.specs.Prelude.{[]};
 
-    /// A judge of no messages so far.
+    /// A judge that has seen no line yet.
     fn new(alloc: Global) -> Judge
         ensures knows { Knows [] result }
         ensures none { result.broken ≡ None }
@@ -78,7 +78,7 @@ impl Judge {
         }
     }
 
-    /// Judges the message of a line, unless there was a break before it.
+    /// Judges the message of a line, unless the rule broke before it.
     fn judge_message(&mut self, number: u64, message: &Message) -> Result<(), Refusal>
         ensures knows { (past : List Told) → Knows past self.old → OnOk result (Knows (message.now ∷ past) self.new) }
         ensures broken { (past : List Told) → Knows past self.old
@@ -108,7 +108,7 @@ impl Judge {
     }
 }
 
-/// The text for so many channels and messages that are well-formed.
+/// The text for a well-formed file with this many channels and messages.
 fn well_formed(alloc: Global, channels: u64, messages: u64) -> Result<Vec<u8>, AllocError>
     ensures { IfOk result (λ text. said None channels messages ≡ Ok text.items) }
 {
@@ -116,8 +116,8 @@ fn well_formed(alloc: Global, channels: u64, messages: u64) -> Result<Vec<u8>, A
     Ok(line.into_bytes())
 }
 
-/// The text for a stream file's bytes: how many channels and messages it has, if it is well-formed. Its lines are
-/// judged one by one, and none of them is kept.
+/// The text for the bytes of a stream file: how many channels and messages it has, if it is well-formed. It judges the
+/// lines one by one and keeps none of them.
 fn verdict_text(alloc: Global, bytes: &[u8]) -> Result<Vec<u8>, Refusal>
     ensures ok { IfOk result (λ text. verdict bytes.now ≡ Ok text.items) }
     ensures err { IfErr result (RefusesSo (λ r. verdict bytes.now ≡ Err r)) }
@@ -148,8 +148,7 @@ fn verdict_of(alloc: Global, bytes: &[u8]) -> Result<Pieces, Refusal>
 
 /// Reads and judges a stream file, and makes the text.
 pub fn answer_verify<F: Files>(alloc: Global, files: &mut F, name: &str) -> Result<Pieces, Refusal>
-    requires lends { IsTrue (F.lends files.old name.now) }
-    requires free { F.lent files.old ≡ None }
+    requires files { CanRead F.Files files.old name.now }
     ensures ok { IfOk result (λ text. Answers (F.entries files.old) (F.readings files.old) (F.readings files.new)
         (verify name.now) (Ok text)) }
     ensures err { IfErr result (RefusesCommand (F.entries files.old) (F.readings files.old) (F.readings files.new)

@@ -1,4 +1,4 @@
-//! `work`: the run of a workload, summed up.
+//! `work`: a summary of the run of a workload.
 ghost use Rattle.std.specs.Prelude.{◌≡◌, ◌≤◌, ◌++◌, List, [], Ok, Err, length, reverse, IfOk, IfErr, OnOk};
 ghost use Rattle.dispatch_history.specs.Effect.{Effect};
 ghost use Rattle.dispatch_history.specs.Plan.{Plan as PlanView};
@@ -53,7 +53,7 @@ fn run_events(
     Ok(count)
 }
 
-/// Appends how far the first `count` channels came.
+/// Appends the `end` lines of the first `count` channels.
 fn add_ends(schedule: &Schedule, count: u32, text: &mut Vec<u8>) -> Result<(), AllocError>
     requires { count ≤ 64 }
     ensures { (plan : PlanView) (es : List Effect) → HasWith Counted plan es schedule.now
@@ -73,7 +73,7 @@ fn head_text(alloc: Global, seed: u32, packets: u32, args: u64) -> Result<Vec<u8
     Ok(lines.into_bytes())
 }
 
-/// The text for a finished run.
+/// The summary of a finished run.
 fn summed_up(
     alloc: Global,
     seed: u32,
@@ -90,7 +90,7 @@ fn summed_up(
     Ok(text)
 }
 
-/// Ends the run of a workload whose events were run, and sums it up.
+/// Finishes the run of a workload whose events were run, and sums it up.
 fn finished(
     alloc: Global,
     seed: u32,
@@ -119,7 +119,7 @@ fn finished(
     Ok(Pieces::of(alloc, summed_up(alloc, seed, packets, args, schedule)?))
 }
 
-/// The summary of a workload's run, or that the run is too long.
+/// The summary of a workload's run, or the refusal of a run that is too long.
 pub fn answer_work(alloc: Global, seed: u32, packets: u32) -> Result<Pieces, Refusal>
     requires { packets ≤ 200000 }
     ensures ok { IfOk result (λ text. Works seed packets (Ok text)) }

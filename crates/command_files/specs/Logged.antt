@@ -14,7 +14,7 @@ abbrev pub Agrees : Option (List ℕ) → Reading → Type 0
 Agrees None r = (r.given ≡ []) × (r.stage ≡ failed)
 Agrees (Some bytes) r = (rest : List ℕ) × (bytes ≡ r.given ++ rest) × (r.stage ≡ at_end → rest ≡ [])
 
--- one reading was logged: of this name, of at most one byte more than the limit, and it agrees with what the files hold, where that is known
+-- one reading was logged: of this name, of at most one byte more than the limit, and it agrees with what the files hold, if that is known
 pub record OneRead (told : Option (List Entry)) (before now : List Reading) (name : List ℕ) (limit : ℕ) (Holds : Reading → Type 0) : Type 0 where
   pub reading : Reading
   pub grown : now ≡ before ++ reading ∷ []

@@ -12,7 +12,7 @@ pub record GivesMore (left_before left_now : Option (List ℕ)) (before now : Re
   pub named : now.name ≡ before.name
   pub ends : now.stage ≡ at_end → IsAtEnd left_now
 
--- a piece of so many bytes was given, and this was done with it
+-- a piece of this many bytes was given, and this was done with it
 pub record GivesWith (before now : Reading) (count : ℕ) (Done : List ℕ → Type 0) : Type 0 where
   pub piece : List ℕ
   pub given : now.given ≡ before.given ++ piece

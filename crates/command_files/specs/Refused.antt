@@ -75,7 +75,7 @@ not_well_formed n = refused 1 (stream_line (stream.NotWellFormed n))
 abbrev pub no_channel : Refused
 no_channel = refused 1 (stream_line stream.NoChannel)
 
--- a motion has a moment that no event of a recording has
+-- the time of a motion is too late for an event of a recording
 abbrev pub too_late : ℕ → Refused
 too_late n = refused 1 (stream_line (stream.TooLate n))
 

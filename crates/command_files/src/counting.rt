@@ -39,7 +39,7 @@ impl Model for Counting {
     ghost view = { λ c. record { tally = c.tally; refused = c.refused } };
 }
 
-/// The counts of a device that had no event, of a session with these displays.
+/// The counts of a device that has had no event, in a session with these displays.
 fn tally_of(alloc: Global, displays: &[Display], kind: &DeviceKind) -> TallyKind
     requires { IsKind (length displays.now) kind.now }
     ensures { (number : ℕ) → KindCounted (device_plan displays.now number kind.now) [] result }

@@ -15,7 +15,7 @@ use input_types::{DeviceId, DisplayId};
 use session_plan::{DeviceKind, Display, Plan};
 use std::alloc::{AllocError, Global};
 
-/// The display with this number, of those of a session.
+/// The display with this number among those of a session.
 fn display_at(displays: &[Display], number: DisplayId) -> Display
     requires within { number < length displays.now }
     requires valid { All IsDisplay displays.now }

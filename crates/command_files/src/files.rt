@@ -1,8 +1,8 @@
 //! Reading a file to its end or its limit.
-ghost use Rattle.std.specs.Prelude.{◌≡◌, ◌+◌, ◌<◌, ◌≤◌, ◌^◌, [], IfOk, IfErr, OnOk, IsErrOf, IsTrue, None, length, vec_len};
+ghost use Rattle.std.specs.Prelude.{◌≡◌, ◌+◌, ◌<◌, ◌≤◌, ◌^◌, [], IfOk, IfErr, OnOk, IsErrOf, length, vec_len};
 ghost use Rattle.outside_io.specs.Trace.{at_end, failed, going};
 ghost use Rattle.outside_io.specs.Outside.{Rose};
-ghost use Rattle.command_files.specs.Keeping.{KeepsFiles};
+ghost use Rattle.command_files.specs.Keeping.{CanRead, KeepsFiles};
 ghost use Rattle.command_files.specs.Logged.{IsWhole};
 ghost use Rattle.command_files.specs.Reading.{GivesMore, GivesWith};
 ghost use Rattle.command_files.specs.declared.files.ReadError.TheVariants.{Failed as ReadFailed, Memory, TooLong};
@@ -50,7 +50,7 @@ impl From<SourceRefused> for ReadError {
     }
 }
 
-/// A buffer of so many bytes, all 0.
+/// A buffer of this many bytes, all 0.
 fn zeros(alloc: Global, len: usize) -> Result<Vec<u8>, AllocError>
     ensures { IfOk result (λ v. vec_len v ≡ len) }
 {
@@ -188,8 +188,7 @@ pub fn feed_file<F: Files, T: Taker>(
     taker: &mut T,
 ) -> Result<(), ReadError>
     requires limit { limit < 2 ^ 32 }
-    requires lends { IsTrue (F.lends files.old name.now) }
-    requires free { F.lent files.old ≡ None }
+    requires files { CanRead F.Files files.old name.now }
     requires fits { T.fits beside.now }
     ensures ok { OnOk result (WithFile (F.entries files.old) (F.readings files.old) (F.readings files.new)
         name.now limit (T.takes beside.now taker.old taker.new)) }
@@ -211,8 +210,7 @@ pub fn read_file<F: Files>(
     limit: usize,
 ) -> Result<Vec<u8>, ReadError>
     requires limit { limit < 2 ^ 32 }
-    requires lends { IsTrue (F.lends files.old name.now) }
-    requires free { F.lent files.old ≡ None }
+    requires files { CanRead F.Files files.old name.now }
     ensures ok { IfOk result (λ v. IsWhole (F.entries files.old) (F.readings files.old) (F.readings files.new) name.now
         limit v.items) }
     ensures err { IfErr result (StopsReading (F.entries files.old) (F.readings files.old) (F.readings files.new)

@@ -1,5 +1,5 @@
 //! The files of a command, each judged once it is read: a session, a recording, an order file and a stream file.
-ghost use Rattle.std.specs.Prelude.{◌≡◌, ◌≤◌, IsTrue, None, Ok, Err, IfOk, IfErr, length};
+ghost use Rattle.std.specs.Prelude.{◌≡◌, ◌≤◌, Ok, Err, IfOk, IfErr, length};
 ghost use Rattle.raw_events.specs.Line.{known};
 ghost use Rattle.raw_events.specs.Recording.{recorded};
 ghost use Rattle.session_plan.specs.Session.{session_of};
@@ -9,7 +9,7 @@ ghost use Rattle.stream_text.specs.OrderText.{order_of};
 ghost use Rattle.command_files.specs.Inputs.{events_file, lines_judged, order_file, order_lines, plan_judged};
 ghost use Rattle.command_files.specs.Inputs.{session_file, stream_kind};
 ghost use Rattle.command_files.specs.Judged.{IsJudged, judged};
-ghost use Rattle.command_files.specs.Keeping.{KeepsFiles};
+ghost use Rattle.command_files.specs.Keeping.{CanRead, KeepsFiles};
 ghost use Rattle.command_files.specs.Logged.{IsRead, RefusesFile};
 ghost use Rattle.command_files.specs.ReadErrors.{refusal_of_read};
 ghost use Rattle.command_files.specs.RefusalView.{subject_of};
@@ -40,7 +40,7 @@ const STREAM_LIMIT: usize = 67108864;
 /// The most steps of a session.
 const STEP_LIMIT: usize = 100000;
 
-/// The plan of a session's bytes.
+/// The plan that the bytes of a session give.
 pub(crate) fn plan_from(alloc: Global, bytes: &[u8]) -> Result<Plan, Refusal>
     ensures ok { IfOk result (λ plan. plan_judged (session_of bytes.now) ≡ Ok (plan_view plan)) }
     ensures valid { IfOk result IsPlan }
@@ -57,7 +57,7 @@ pub(crate) fn plan_from(alloc: Global, bytes: &[u8]) -> Result<Plan, Refusal>
     Ok(plan)
 }
 
-/// What such a file is where it is longer than its limit.
+/// What is reported as too long if such a file is longer than its limit.
 fn subject_of(file: Input) -> Subject
     ensures { result ≡ subject_of file }
 {
@@ -82,8 +82,7 @@ pub fn read_refusal(error: ReadError, file: Input) -> Refusal
 
 /// Reads and judges the session.
 pub fn read_session<F: Files>(alloc: Global, files: &mut F, name: &str) -> Result<Plan, Refusal>
-    requires lends { IsTrue (F.lends files.old name.now) }
-    requires free { F.lent files.old ≡ None }
+    requires files { CanRead F.Files files.old name.now }
     ensures ok { IfOk result (λ plan. IsRead (F.entries files.old) (F.readings files.old) (F.readings files.new)
         name.now session_file (Ok (plan_view plan))) }
     ensures told { IfOk result
@@ -106,8 +105,7 @@ pub fn read_events<F: Files>(
     devices: &[(String, DeviceId)],
     name: &str,
 ) -> Result<Vec<RawEvent>, Refusal>
-    requires lends { IsTrue (F.lends files.old name.now) }
-    requires free { F.lent files.old ≡ None }
+    requires files { CanRead F.Files files.old name.now }
     ensures ok { IfOk result (λ events. IsRead (F.entries files.old) (F.readings files.old) (F.readings files.new)
         name.now (events_file (known devices.now)) (Ok events.items)) }
     ensures told { IfOk result (λ events. IsJudged (F.entries files.old) name.now
@@ -139,8 +137,7 @@ fn events_in(
 
 /// Reads and judges an order file.
 pub fn read_order<F: Files>(alloc: Global, files: &mut F, name: &str) -> Result<Order, Refusal>
-    requires lends { IsTrue (F.lends files.old name.now) }
-    requires free { F.lent files.old ≡ None }
+    requires files { CanRead F.Files files.old name.now }
     ensures ok { IfOk result (λ order. IsRead (F.entries files.old) (F.readings files.old) (F.readings files.new)
         name.now order_file (Ok order)) }
     ensures err { IfErr result (RefusesFile (F.entries files.old) (F.readings files.old) (F.readings files.new)
@@ -167,15 +164,14 @@ fn order_in(alloc: Global, bytes: &[u8]) -> Result<Order, Refusal>
     }
 }
 
-/// Reads a file of streams, which the command reads for this.
+/// Reads a file of streams. `file` says what the command reads it for.
 pub fn read_stream<F: Files>(
     alloc: Global,
     files: &mut F,
     name: &str,
     file: Input,
 ) -> Result<Vec<u8>, Refusal>
-    requires lends { IsTrue (F.lends files.old name.now) }
-    requires free { F.lent files.old ≡ None }
+    requires files { CanRead F.Files files.old name.now }
     ensures ok { IfOk result (λ bytes. IsRead (F.entries files.old) (F.readings files.old) (F.readings files.new)
         name.now (stream_kind file) (Ok bytes.items)) }
     ensures few { IfOk result (λ bytes. length bytes.items ≤ 67108864) }

@@ -1,12 +1,12 @@
 //! A session with the keys that nothing reads.
-ghost use Rattle.std.specs.Prelude.{◌≡◌, IsTrue, None, Ok, Err, IfOk, IfErr};
+ghost use Rattle.std.specs.Prelude.{◌≡◌, Ok, Err, IfOk, IfErr};
 ghost use Rattle.session_plan.specs.Session.{session_of};
 ghost use Rattle.session_plan.specs.Valid.{IsPlan};
 ghost use Rattle.session_plan.specs.View.{plan_view};
 ghost use Rattle.unread_keys.specs.Session.{unread_text};
 ghost use Rattle.command_files.specs.Inputs.{keyed_file, plan_judged, session_file};
 ghost use Rattle.command_files.specs.Judged.{IsJudged, beside, judged};
-ghost use Rattle.command_files.specs.Keeping.{KeepsFiles};
+ghost use Rattle.command_files.specs.Keeping.{CanRead, KeepsFiles};
 ghost use Rattle.command_files.specs.Logged.{IsRead, RefusesFile};
 ghost use Rattle.command_files.specs.Refusing.{RefusesSo};
 
@@ -25,7 +25,7 @@ pub struct KeyedPlan {
     pub unread: Vec<u8>,
 }
 
-/// The plan of a session's bytes, and their keys that nothing reads.
+/// The plan that the bytes of a session give, and the keys that nothing reads.
 fn keyed_from(alloc: Global, bytes: &[u8]) -> Result<KeyedPlan, Refusal>
     ensures ok { IfOk result (λ s. beside (plan_judged (session_of bytes.now)) (unread_text bytes.now)
         ≡ Ok (plan_view s.plan, s.unread.items)) }
@@ -46,8 +46,7 @@ pub fn read_keyed_session<F: Files>(
     files: &mut F,
     name: &str,
 ) -> Result<KeyedPlan, Refusal>
-    requires lends { IsTrue (F.lends files.old name.now) }
-    requires free { F.lent files.old ≡ None }
+    requires files { CanRead F.Files files.old name.now }
     ensures ok { IfOk result (λ s. IsRead (F.entries files.old) (F.readings files.old) (F.readings files.new)
         name.now keyed_file (Ok (plan_view s.plan, s.unread.items))) }
     ensures told { IfOk result

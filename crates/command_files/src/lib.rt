@@ -1,8 +1,8 @@
-//! The files of the commands: each is read to its end or its limit and judged, and a refusal is returned with its
-//! reason.
+//! The files of the commands. Each is read to its end or its limit and judged; a refusal says why.
 //!
-//! A session is read whole, and so are the events of a recording, an order file and a stream file. The recordings of
-//! `replay` and `inspect` are read in pieces, which are run ([`Recording`]) or counted ([`Counting`]) as they come.
+//! A session is read whole, and so are an order file, a stream file and the recording of `check`, `race` and `hover`.
+//! `replay`, `why` and `inspect` read the recording in pieces, and run it ([`Recording`]) or count it ([`Counting`])
+//! piece by piece.
 //!
 //! ```text
 //! a session of 5 MiB           too long: session

@@ -65,7 +65,7 @@ pub fn recording_refusal(error: LineError) -> Refusal
     }
 }
 
-/// Hands some args to a run, at their moment.
+/// Hands some args to a run, at their time.
 #[inline(always)]
 fn run_args(
     schedule: &mut Schedule,
@@ -84,7 +84,7 @@ fn run_args(
     Ok(())
 }
 
-/// What the devices deliver for an event, and its moment.
+/// What the devices give for an event, and its time.
 #[inline(always)]
 pub fn cook_event(
     event: RawEvent,
@@ -102,7 +102,7 @@ pub fn cook_event(
     Ok(moment)
 }
 
-/// Hands to a run what the devices deliver for an event.
+/// Hands to a run what the devices give for an event.
 #[inline(always)]
 pub fn run_event(
     event: RawEvent,
@@ -124,7 +124,7 @@ pub fn run_event(
     run_args(schedule, plan, moment, args)
 }
 
-/// Hands to a run what the devices deliver for some events.
+/// Hands to a run what the devices give for some events.
 fn run_events(
     events: &[RawEvent],
     args: &mut Vec<Args>,
@@ -146,7 +146,7 @@ fn run_events(
 }
 
 impl Recording {
-    /// A recording before its first byte, and a run before its first args.
+    /// A recording before its first byte, over a run before its first args.
     pub fn new(alloc: Global, reader: LineReader, readers: Readers, schedule: Schedule) -> Recording
         ensures { result ≡ record { reader = reader; readers = readers; schedule = schedule } }
     {

@@ -8,7 +8,7 @@ use raw_events::LineError;
 use session_plan::PlanError;
 use std::alloc::AllocError;
 
-/// A file that a command reads, by what it reads it for.
+/// A file that a command reads, named by what the command reads it for.
 #[derive(Clone, Copy, Debug, PartialEq, Eq)]
 pub enum Input {
     Session,
@@ -35,8 +35,8 @@ pub enum Subject {
     Steps,
     /// The stream file has more bytes than 64 MiB.
     Stream,
-    /// The run has more calls or more messages than 4,000,000, the order more lines than 8,000,000, what is checked or
-    /// raced more args than 20,000, or the recording that is written more bytes than 32 MiB.
+    /// The run has more than 4,000,000 calls or messages, the order more than 8,000,000 lines, the recording of a
+    /// `check` or a `race` more than 20,000 args, or the recording that is written more than 32 MiB.
     Run,
 }
 
@@ -45,7 +45,7 @@ pub enum Subject {
 pub enum OrderError {
     /// The line does not follow the grammar of order files, or is missing.
     BadLine { line: u64 },
-    /// The line requests a step of the recording or of a lane, and none is left.
+    /// The line asks for args or for a step of a lane, and none is left.
     NoStep { line: u64 },
 }
 
@@ -58,9 +58,9 @@ pub enum StreamError {
     NotWellFormed { line: u64 },
     /// There is no section of the channel.
     NoChannel,
-    /// The motion of the line has a moment that no event of a recording has.
+    /// The time of the line's motion is too late for an event of a recording.
     TooLate { line: u64 },
-    /// The motion of the line has a pointer with an id that cooking would not give it.
+    /// The motion of the line has a pointer whose id cooking would not give it.
     NotAssignable { line: u64 },
     /// A section is not whole, or none has a message.
     NotWhole(JudgeError),

@@ -1,5 +1,5 @@
-//! Standard output and standard error. Where nobody reads the output any more, as behind `replay .. | head -n 1`, a
-//! write fails and the program ends with its status, but prints no line.
+//! Standard output and standard error. If nobody reads the output any more, as behind `replay .. | head -n 1`, a write
+//! fails and the program ends with the status of that, but prints no line.
 
 use std::cell::Cell;
 use std::io::{self, ErrorKind, Write};
@@ -33,7 +33,7 @@ impl<W: Write> Write for Output<'_, W> {
     }
 }
 
-/// Standard error. It drops what is written once nobody reads the output any more.
+/// Standard error. It drops everything that is written once nobody reads the output any more.
 #[derive(Drop)]
 pub struct Errors<'a, W> {
     inner: W,

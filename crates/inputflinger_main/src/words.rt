@@ -1,13 +1,13 @@
-//! The words behind the program's name.
+//! The words after the program's name.
 
 use std::alloc::{AllocError, Global};
 use std::env::{Env, FillError};
 use std::str;
 
-/// The most bytes of a word for which no longer buffer is needed.
+/// A word of up to this many bytes needs no longer buffer.
 const SHORT: usize = 256;
 
-/// The words behind the program's name. One that is not UTF-8 text is the empty word, at its place.
+/// The words after the program's name. A word that is not UTF-8 counts as the empty word in its place.
 pub fn words<R: Env>(rt: &R, alloc: Global) -> Result<Vec<String>, AllocError> {
     let mut words = Vec::new(alloc);
     let mut buffer = Vec::new(alloc);
@@ -21,7 +21,7 @@ pub fn words<R: Env>(rt: &R, alloc: Global) -> Result<Vec<String>, AllocError> {
     Ok(words)
 }
 
-/// The word at an index, or None behind the last one. The buffer grows until the word fits.
+/// The word at an index; None past the last one. The buffer grows until the word fits.
 fn word<R: Env>(
     rt: &R,
     alloc: Global,
@@ -44,7 +44,7 @@ fn word<R: Env>(
     Err(AllocError)
 }
 
-/// The text of some bytes, which is empty where they are not UTF-8.
+/// Bytes as a text; the empty text if they are not UTF-8.
 fn text_of(bytes: &[u8]) -> &str {
     match str::from_utf8(bytes) {
         Ok(text) => text,

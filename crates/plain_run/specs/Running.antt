@@ -9,7 +9,7 @@ use Rattle.plain_calls.specs.Status.{is_ok, no_room, no_threads}
 use Rattle.plain_run.specs.declared.lent.Lent.{Lent}
 use Rattle.plain_run.specs.declared.ran.PlainRan.{PlainRan}
 
--- the first so many of three files under their names, if there are so many
+-- the first `count` of three files under their names, if there are that many
 abbrev pub files_from : (count : ℕ) → (first second third : List ℕ) → Option (List Entry)
 files_from count first second third =
     if nat_le count 3 then Some (take count ((codes "1", first) ∷ (codes "2", second) ∷ (codes "3", third) ∷ [])) else None

@@ -1,7 +1,7 @@
 //! Texts that go to buffers.
 ghost use Rattle.plain_run.specs.Running.{Fills};
 
-/// Writes as much of the front of a text to a buffer as fits, and returns the length of the text.
+/// Copies as much of the front of a text into a buffer as fits, and returns the length of the text.
 pub(crate) fn fill(buffer: &mut [u8], text: &[u8]) -> usize
     ensures { Fills text.now buffer.old buffer.new result }
 {

@@ -1,6 +1,6 @@
-//! What a run came to.
+//! The result of a run.
 
-/// What a run came to: `struct inputflinger_ran`.
+/// The result of a run: `struct inputflinger_ran`.
 #[repr(C)]
 #[derive(Clone, Copy, Debug)]
 pub struct PlainRan {

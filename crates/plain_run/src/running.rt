@@ -15,12 +15,12 @@ use lent_io::LentFile;
 use plain_calls::status::{MEMORY, NO_THREADS, OK, RANGE, ROOM};
 use std::alloc::Global;
 
-/// Runs the program. `words` are those after its name, one per line; a line that is not UTF-8 is the empty word. What
-/// it prints goes to `out`, and the line that says why it prints nothing goes to `err`, each as far as there is room;
-/// the rest of each buffer stays. `ran` says how many bytes they have.
+/// Runs the program. `words` are those after its name, one per line; a line that is not UTF-8 is the empty word. The
+/// text that it prints goes to `out`, and the line that says why there is none goes to `err`, each as far as there is
+/// room. The rest of each buffer stays as it was. `ran` has the length of both.
 ///
-/// `ROOM` if one of them is longer than its buffer. `RANGE` for more than three files, `NO_THREADS` for the words of
-/// `race`, and `MEMORY` if there is no memory for the words: then nothing ran, and nothing changed.
+/// Answers `ROOM` if one of them is longer than its buffer. Answers `RANGE` for more than three files, `NO_THREADS` for
+/// the words of `race`, and `MEMORY` if there is no memory for the words: then nothing ran, and nothing changed.
 pub fn run(
     alloc: Global,
     words: &[u8],

@@ -6,7 +6,7 @@ use std::alloc::{AllocError, Global};
 use std::str;
 use text_lines::first_line;
 
-/// The word of a line. A line that is not UTF-8 text is the empty word, as a word of the program is that is not text.
+/// The word of a line. A line that is not UTF-8 is the empty word, like such a word of the program.
 fn word_of(text: &[u8]) -> &str
     ensures { result.now ≡ word_of text.now }
 {

@@ -1,9 +1,9 @@
 //! The line that says in what two points differ.
-ghost use Rattle.std.specs.Prelude.{◌≤◌, ◌++◌, codes, decimal};
+ghost use Rattle.std.specs.Prelude.{◌++◌, codes};
 ghost use Rattle.std.specs.Fmt.{signed_decimal};
 ghost use Rattle.compare_text.specs.declared.error.CompareError.TheVariants.{Differs};
 ghost use Rattle.compare_text.specs.Lines.{differs_at, refusal_line};
-ghost use Rattle.text_output.specs.Passing.{Tells};
+ghost use Rattle.text_output.specs.Passing.{Prints};
 
 use compare_text::Difference;
 use itoa::Buffer;
@@ -13,9 +13,7 @@ use text_output::tell_parts;
 /// Prints a difference that is a word alone.
 #[tactic(auto, unfolding(compare_text::specs::Lines::differs_at))]
 fn tell_word<E: Sink>(err: &mut E, want: u64, got: u64, word: &str)
-    ensures line { Tells (E.faults err.old) (E.faults err.new) (E.writing err.old) (E.writing err.new)
-        (differs_at want got word.now ++ codes "\n") }
-    ensures later { E.faults err.old ≤ E.faults err.new }
+    ensures { Prints E.Sink err.old err.new (differs_at want got word.now ++ codes "\n") }
 {
     let mut wanted = Buffer::new();
     let mut came = Buffer::new();
@@ -23,13 +21,12 @@ fn tell_word<E: Sink>(err: &mut E, want: u64, got: u64, word: &str)
     tell_parts(err, &["compare: Differs ", want, " ", got, " ", word, "\n"]);
 }
 
-/// Prints how far a place is from the expected one.
+/// Prints how far a position is from the expected one.
 #[tactic(auto, unfolding(compare_text::specs::Lines::differs_at))]
 fn tell_place<E: Sink>(err: &mut E, want: u64, got: u64, dx: i64, dy: i64)
-    ensures line { Tells (E.faults err.old) (E.faults err.new) (E.writing err.old) (E.writing err.new)
+    ensures { Prints E.Sink err.old err.new
         (differs_at want got (codes "place " ++ (signed_decimal dx ++ (codes "," ++ signed_decimal dy)))
         ++ codes "\n") }
-    ensures later { E.faults err.old ≤ E.faults err.new }
 {
     let mut wanted = Buffer::new();
     let mut came = Buffer::new();
@@ -53,12 +50,10 @@ fn tell_place<E: Sink>(err: &mut E, want: u64, got: u64, dx: i64, dy: i64)
     );
 }
 
-/// Prints how far a moment is from the expected one.
+/// Prints how far a time is from the expected one.
 #[tactic(auto, unfolding(compare_text::specs::Lines::differs_at))]
 fn tell_time<E: Sink>(err: &mut E, want: u64, got: u64, us: i64)
-    ensures line { Tells (E.faults err.old) (E.faults err.new) (E.writing err.old) (E.writing err.new)
-        (differs_at want got (codes "time " ++ signed_decimal us) ++ codes "\n") }
-    ensures later { E.faults err.old ≤ E.faults err.new }
+    ensures { Prints E.Sink err.old err.new (differs_at want got (codes "time " ++ signed_decimal us) ++ codes "\n") }
 {
     let mut wanted = Buffer::new();
     let mut came = Buffer::new();
@@ -73,9 +68,7 @@ fn tell_time<E: Sink>(err: &mut E, want: u64, got: u64, us: i64)
 /// Prints the lines of two points that do not agree, and in what they differ.
 #[tactic(auto, unfolding(compare_text::specs::Lines::refusal_line, compare_text::specs::Lines::difference_words))]
 pub(crate) fn tell_differs<E: Sink>(err: &mut E, want: u64, got: u64, what: Difference)
-    ensures line { Tells (E.faults err.old) (E.faults err.new) (E.writing err.old) (E.writing err.new)
-        (refusal_line (Differs want got what) ++ codes "\n") }
-    ensures later { E.faults err.old ≤ E.faults err.new }
+    ensures { Prints E.Sink err.old err.new (refusal_line (Differs want got what) ++ codes "\n") }
 {
     match what {
         Difference::Kind => tell_word(err, want, got, "kind"),

@@ -1,6 +1,6 @@
 //! How the program ends: what is written or printed, and the status.
 ghost use Rattle.std.specs.Prelude.{codes, ◌≡◌, ◌≢◌, ◌≤◌, ◌++◌, ℕ, List, Ok, map, string_bytes};
-ghost use Rattle.text_output.specs.Passing.{Tells, WritesText};
+ghost use Rattle.text_output.specs.Passing.{Prints, WritesText};
 ghost use Rattle.command_words.specs.Fault.{words_line};
 ghost use Rattle.command_files.specs.RefusalView.{refusal_view, status_of};
 ghost use Rattle.replay_engine.specs.Outcome.{Asked, Ends, sink_ends};
@@ -15,22 +15,19 @@ use outside_io::Sink;
 use text_output::{tell, write_text};
 use text_pieces::Pieces;
 
-/// Prints a line, and returns the status that goes with it.
+/// Prints a line, and returns the status that belongs to it.
 fn end_with<E: Sink>(status: u8, line: &str, err: &mut E) -> u8
     ensures status { result ≡ status }
-    ensures line { Tells (E.faults err.old) (E.faults err.new) (E.writing err.old) (E.writing err.new) line.now }
-    ensures later { E.faults err.old ≤ E.faults err.new }
+    ensures printed { Prints E.Sink err.old err.new line.now }
 {
     tell(err, line);
     status
 }
 
-/// Prints what is wrong with words that are of no form, and returns the status.
+/// Prints what is wrong with words that have no valid form, and returns the status.
 pub fn end_words<E: Sink>(words: &[String], err: &mut E) -> u8
     ensures status { result ≡ 2 }
-    ensures line { Tells (E.faults err.old) (E.faults err.new) (E.writing err.old) (E.writing err.new)
-        (words_line (map string_bytes words.now) ++ codes "\n") }
-    ensures later { E.faults err.old ≤ E.faults err.new }
+    ensures printed { Prints E.Sink err.old err.new (words_line (map string_bytes words.now) ++ codes "\n") }
 {
     match fault_of(words) {
         Some(fault) => tell_fault(err, &fault),
@@ -52,12 +49,10 @@ fn status_of(refusal: &Refusal) -> u8
     }
 }
 
-/// Prints why a run writes no text, and returns the status. It allocates no memory.
+/// Prints why a command writes no text, and returns the status. It allocates no memory.
 fn end_refused<E: Sink>(refusal: &Refusal, err: &mut E) -> u8
     ensures status { result ≡ status_of refusal.now }
-    ensures line { Tells (E.faults err.old) (E.faults err.new) (E.writing err.old) (E.writing err.new)
-        (refusal_view refusal.now).line }
-    ensures later { E.faults err.old ≤ E.faults err.new }
+    ensures printed { Prints E.Sink err.old err.new (refusal_view refusal.now).line }
 {
     match refusal {
         Refusal::Session(error) => tell_session(err, error),
@@ -74,9 +69,7 @@ fn end_refused<E: Sink>(refusal: &Refusal, err: &mut E) -> u8
 /// Ends a program that has no memory for its words.
 pub fn no_memory<E: Sink>(err: &mut E) -> u8
     ensures status { result ≡ 6 }
-    ensures line { Tells (E.faults err.old) (E.faults err.new) (E.writing err.old) (E.writing err.new)
-        (codes "no memory\n") }
-    ensures later { E.faults err.old ≤ E.faults err.new }
+    ensures printed { Prints E.Sink err.old err.new (codes "no memory\n") }
 {
     end_with(6, "no memory\n", err)
 }

@@ -1,8 +1,8 @@
 //! Proved facts about how a run ends.
 ghost use Rattle.replay_engine.specs.Laws.{RunsComplete};
 
-/// Where neither the files nor the output had a fault, a run ends with the status of the program's answer, or memory
-/// ran out.
+/// If neither the files nor the output had a fault, a run ends with the status of the program's answer, or memory ran
+/// out.
 pub fn completing()
     ensures complete { RunsComplete }
 {}

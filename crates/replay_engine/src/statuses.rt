@@ -1,9 +1,9 @@
 //! The lines that say why a command writes no text. None of them allocates memory.
-ghost use Rattle.std.specs.Prelude.{◌≡◌, ◌≤◌, ◌++◌, codes, decimal};
+ghost use Rattle.std.specs.Prelude.{◌≡◌, ◌++◌, codes, decimal};
 ghost use Rattle.std.specs.Fmt.{signed_decimal};
 ghost use Rattle.session_plan.specs.ErrorLine.{error_line, refused_line};
 ghost use Rattle.compare_text.specs.Lines.{refusal_line as compare_line};
-ghost use Rattle.text_output.specs.Passing.{Tells};
+ghost use Rattle.text_output.specs.Passing.{Prints};
 ghost use Rattle.command_words.specs.Fault.{fault_line};
 ghost use Rattle.command_words.specs.FaultView.{fault_view};
 ghost use Rattle.command_files.specs.Refused.{order_line, read_failed, recording_line, stream_line, too_long};
@@ -23,9 +23,7 @@ use text_output::{tell, tell_named, tell_pair};
 
 /// Prints what is wrong with words.
 pub fn tell_fault<E: Sink>(err: &mut E, fault: &Fault<'_>)
-    ensures line { Tells (E.faults err.old) (E.faults err.new) (E.writing err.old) (E.writing err.new)
-        (fault_line (fault_view fault.now) ++ codes "\n") }
-    ensures later { E.faults err.old ≤ E.faults err.new }
+    ensures { Prints E.Sink err.old err.new (fault_line (fault_view fault.now) ++ codes "\n") }
 {
     match fault {
         Fault::NoCommand => tell(err, "words: NoCommand\n"),
@@ -42,9 +40,7 @@ pub fn tell_fault<E: Sink>(err: &mut E, fault: &Fault<'_>)
 
 /// Prints a line that ends with a number.
 pub fn tell_number<E: Sink>(err: &mut E, words: &str, number: u64)
-    ensures line { Tells (E.faults err.old) (E.faults err.new) (E.writing err.old) (E.writing err.new)
-        ((words.now ++ decimal number) ++ codes "\n") }
-    ensures later { E.faults err.old ≤ E.faults err.new }
+    ensures { Prints E.Sink err.old err.new ((words.now ++ decimal number) ++ codes "\n") }
 {
     let mut digits = Buffer::new();
     tell_named(err, words, digits.format(number));
@@ -52,16 +48,15 @@ pub fn tell_number<E: Sink>(err: &mut E, words: &str, number: u64)
 
 /// Prints a line that ends with two numbers.
 fn tell_numbers<E: Sink>(err: &mut E, words: &str, first: u64, second: u64)
-    ensures line { Tells (E.faults err.old) (E.faults err.new) (E.writing err.old) (E.writing err.new)
+    ensures { Prints E.Sink err.old err.new
         ((words.now ++ (decimal first ++ (codes " " ++ decimal second))) ++ codes "\n") }
-    ensures later { E.faults err.old ≤ E.faults err.new }
 {
     let mut digits = Buffer::new();
     let mut others = Buffer::new();
     tell_pair(err, words, digits.format(first), others.format(second));
 }
 
-/// The number of the line for which a layout is refused.
+/// The number of the refused line of a layout.
 fn line_of(error: LayoutError) -> u64
     ensures { result ≡ refused_line error }
 {
@@ -75,9 +70,8 @@ fn line_of(error: LayoutError) -> u64
 
 /// Prints the key of a number that is outside its range.
 fn tell_out_of_range<E: Sink>(err: &mut E, key: &str, value: i64)
-    ensures line { Tells (E.faults err.old) (E.faults err.new) (E.writing err.old) (E.writing err.new)
+    ensures { Prints E.Sink err.old err.new
         ((codes "session: OutOfRange " ++ (key.now ++ (codes " " ++ signed_decimal value))) ++ codes "\n") }
-    ensures later { E.faults err.old ≤ E.faults err.new }
 {
     let mut digits = Buffer::new();
     tell_pair(err, "session: OutOfRange ", key, digits.format(value));
@@ -85,9 +79,7 @@ fn tell_out_of_range<E: Sink>(err: &mut E, key: &str, value: i64)
 
 /// Prints why a session is refused.
 pub fn tell_session<E: Sink>(err: &mut E, error: &PlanError)
-    ensures line { Tells (E.faults err.old) (E.faults err.new) (E.writing err.old) (E.writing err.new)
-        (error_line error.now ++ codes "\n") }
-    ensures later { E.faults err.old ≤ E.faults err.new }
+    ensures { Prints E.Sink err.old err.new (error_line error.now ++ codes "\n") }
 {
     match error {
         PlanError::NotToml => tell(err, "session: NotToml\n"),
@@ -109,9 +101,7 @@ pub fn tell_session<E: Sink>(err: &mut E, error: &PlanError)
 
 /// Prints why a recording is refused.
 pub fn tell_recording<E: Sink>(err: &mut E, error: &LineError)
-    ensures line { Tells (E.faults err.old) (E.faults err.new) (E.writing err.old) (E.writing err.new)
-        (recording_line error.now ++ codes "\n") }
-    ensures later { E.faults err.old ≤ E.faults err.new }
+    ensures { Prints E.Sink err.old err.new (recording_line error.now ++ codes "\n") }
 {
     match error {
         LineError::BadLine { line } => tell_number(err, "recording: BadLine ", *line),
@@ -123,9 +113,7 @@ pub fn tell_recording<E: Sink>(err: &mut E, error: &LineError)
 
 /// Prints why an order file is refused.
 pub fn tell_order<E: Sink>(err: &mut E, error: OrderError)
-    ensures line { Tells (E.faults err.old) (E.faults err.new) (E.writing err.old) (E.writing err.new)
-        (order_line error ++ codes "\n") }
-    ensures later { E.faults err.old ≤ E.faults err.new }
+    ensures { Prints E.Sink err.old err.new (order_line error ++ codes "\n") }
 {
     match error {
         OrderError::BadLine { line } => tell_number(err, "order: BadLine ", line),
@@ -136,9 +124,7 @@ pub fn tell_order<E: Sink>(err: &mut E, error: OrderError)
 /// Prints where streams differ.
 #[tactic(auto, unfolding(compare_text::specs::Lines::refusal_line))]
 fn tell_same<E: Sink>(err: &mut E, error: CompareError)
-    ensures line { Tells (E.faults err.old) (E.faults err.new) (E.writing err.old) (E.writing err.new)
-        (compare_line error ++ codes "\n") }
-    ensures later { E.faults err.old ≤ E.faults err.new }
+    ensures { Prints E.Sink err.old err.new (compare_line error ++ codes "\n") }
 {
     match error {
         CompareError::Differs { want, got, what } => tell_differs(err, want, got, what),
@@ -152,9 +138,7 @@ fn tell_same<E: Sink>(err: &mut E, error: CompareError)
 
 /// Prints why a stream file is refused.
 pub fn tell_stream<E: Sink>(err: &mut E, error: &StreamError)
-    ensures line { Tells (E.faults err.old) (E.faults err.new) (E.writing err.old) (E.writing err.new)
-        (stream_line error.now ++ codes "\n") }
-    ensures later { E.faults err.old ≤ E.faults err.new }
+    ensures { Prints E.Sink err.old err.new (stream_line error.now ++ codes "\n") }
 {
     match error {
         StreamError::BadLine { line } => tell_number(err, "stream: BadLine ", *line),
@@ -169,7 +153,7 @@ pub fn tell_stream<E: Sink>(err: &mut E, error: &StreamError)
     }
 }
 
-/// The word for what is longer than its limit.
+/// The word for what exceeded its limit.
 fn subject_word(what: Subject) -> &'static str
     ensures { result.now ≡ subject_word what }
 {
@@ -183,11 +167,9 @@ fn subject_word(what: Subject) -> &'static str
     }
 }
 
-/// Prints what is longer than its limit.
+/// Prints what exceeded its limit.
 pub fn tell_too_long<E: Sink>(err: &mut E, what: Subject)
-    ensures line { Tells (E.faults err.old) (E.faults err.new) (E.writing err.old) (E.writing err.new)
-        (too_long (subject_word what)).line }
-    ensures later { E.faults err.old ≤ E.faults err.new }
+    ensures { Prints E.Sink err.old err.new (too_long (subject_word what)).line }
 {
     tell_named(err, "too long: ", subject_word(what));
 }
@@ -208,9 +190,7 @@ fn input_word(file: Input) -> &'static str
 
 /// Prints which file could not be read.
 pub fn tell_unread<E: Sink>(err: &mut E, file: Input)
-    ensures line { Tells (E.faults err.old) (E.faults err.new) (E.writing err.old) (E.writing err.new)
-        (read_failed (input_word file)).line }
-    ensures later { E.faults err.old ≤ E.faults err.new }
+    ensures { Prints E.Sink err.old err.new (read_failed (input_word file)).line }
 {
     tell_named(err, input_word(file), ": ReadFailed");
 }

@@ -1,10 +1,9 @@
-//! The lines that say why streams are not whole. The amount that is still down is unbounded, so it is written as it
-//! is found.
-ghost use Rattle.std.specs.Prelude.{◌≡◌, ◌≤◌, ◌++◌, codes, decimal, map, OnOk, OnErr};
+//! The lines that say why streams are not whole. Any number of pointers and keys may still be down, so each part is
+//! written as it is found.
+ghost use Rattle.std.specs.Prelude.{◌≡◌, ◌++◌, codes, decimal, map, OnOk, OnErr};
 ghost use Rattle.bits32.specs.Set.{members};
-ghost use Rattle.outside_io.specs.Outside.{Rose};
 ghost use Rattle.judge_text.specs.Lines.{ids_text, key_text, keys_text, mark_at, pointers_text, refusal_line};
-ghost use Rattle.text_output.specs.Passing.{StopsWithin, Tells, WritesAll, WritesUpTo};
+ghost use Rattle.text_output.specs.Passing.{CountsFaults, Prints, StopsWithin, WritesAll, WritesUpTo};
 
 use crate::statuses::tell_number;
 use bits32::Bits32;
@@ -14,7 +13,7 @@ use judge_text::{HeldIds, JudgeError, StillDown, word};
 use outside_io::{Failed, Sink};
 use text_output::{Line, tell, tell_pair};
 
-/// The mark before the id at an index of its list.
+/// The character before the id at an index of its list.
 fn mark(place: u32) -> &'static str
     ensures { result.now ≡ mark_at place }
 {
@@ -27,8 +26,7 @@ fn add_id<E: Sink>(line: &mut Line, err: &mut E, place: u32, id: u8) -> Result<(
         (line.old ++ (mark_at place ++ decimal id)) line.new) }
     ensures err { OnErr result (StopsWithin (E.writing err.old) (E.writing err.new)
         (line.old ++ (mark_at place ++ decimal id))) }
-    ensures cause { OnErr result (Rose (E.faults err.old) (E.faults err.new)) }
-    ensures later { E.faults err.old ≤ E.faults err.new }
+    ensures faults { CountsFaults E.Sink err.old err.new result }
 {
     let mut digits = Buffer::new();
     line.add_parts(err, &[mark(place), digits.format(id)])
@@ -40,8 +38,7 @@ fn add_ids<E: Sink>(line: &mut Line, err: &mut E, ids: Bits32) -> Result<(), Fai
         (line.old ++ ids_text (codes ":") (members ids)) line.new) }
     ensures err { OnErr result (StopsWithin (E.writing err.old) (E.writing err.new)
         (line.old ++ ids_text (codes ":") (members ids))) }
-    ensures cause { OnErr result (Rose (E.faults err.old) (E.faults err.new)) }
-    ensures later { E.faults err.old ≤ E.faults err.new }
+    ensures faults { CountsFaults E.Sink err.old err.new result }
 {
     for place in 0..ids.count() {
         if let Some(id) = ids.nth(place) {
@@ -58,8 +55,7 @@ fn add_held<E: Sink>(line: &mut Line, err: &mut E, held: &HeldIds) -> Result<(),
         line.new) }
     ensures err { OnErr result (StopsWithin (E.writing err.old) (E.writing err.new)
         (line.old ++ (codes " " ++ (decimal held.now.device ++ ids_text (codes ":") (members held.now.ids))))) }
-    ensures cause { OnErr result (Rose (E.faults err.old) (E.faults err.new)) }
-    ensures later { E.faults err.old ≤ E.faults err.new }
+    ensures faults { CountsFaults E.Sink err.old err.new result }
 {
     let mut digits = Buffer::new();
     line.add_parts(err, &[" ", digits.format(held.device.get())])?;
@@ -72,8 +68,7 @@ fn add_pointers<E: Sink>(line: &mut Line, err: &mut E, pointers: &[HeldIds]) -> 
         (line.old ++ pointers_text (map (λ h. (h.device, members h.ids)) pointers.now)) line.new) }
     ensures err { OnErr result (StopsWithin (E.writing err.old) (E.writing err.new)
         (line.old ++ pointers_text (map (λ h. (h.device, members h.ids)) pointers.now))) }
-    ensures cause { OnErr result (Rose (E.faults err.old) (E.faults err.new)) }
-    ensures later { E.faults err.old ≤ E.faults err.new }
+    ensures faults { CountsFaults E.Sink err.old err.new result }
 {
     for held in pointers {
         add_held(line, err, held)?;
@@ -87,8 +82,7 @@ fn add_key<E: Sink>(line: &mut Line, err: &mut E, key: HeldKey) -> Result<(), Fa
         (line.old ++ key_text key) line.new) }
     ensures err { OnErr result (StopsWithin (E.writing err.old) (E.writing err.new)
         (line.old ++ key_text key)) }
-    ensures cause { OnErr result (Rose (E.faults err.old) (E.faults err.new)) }
-    ensures later { E.faults err.old ≤ E.faults err.new }
+    ensures faults { CountsFaults E.Sink err.old err.new result }
 {
     let mut device = Buffer::new();
     let mut scan = Buffer::new();
@@ -107,8 +101,7 @@ fn add_keys<E: Sink>(line: &mut Line, err: &mut E, keys: &[HeldKey]) -> Result<(
         (line.old ++ keys_text keys.now) line.new) }
     ensures err { OnErr result (StopsWithin (E.writing err.old) (E.writing err.new)
         (line.old ++ keys_text keys.now)) }
-    ensures cause { OnErr result (Rose (E.faults err.old) (E.faults err.new)) }
-    ensures later { E.faults err.old ≤ E.faults err.new }
+    ensures faults { CountsFaults E.Sink err.old err.new result }
 {
     for key in keys {
         add_key(line, err, *key)?;
@@ -122,8 +115,7 @@ fn write_still_down<E: Sink>(err: &mut E, number: u64, down: &StillDown) -> Resu
         (refusal_line (JudgeError.StillDown number down.now) ++ codes "\n")) }
     ensures err { OnErr result (StopsWithin (E.writing err.old) (E.writing err.new)
         (refusal_line (JudgeError.StillDown number down.now) ++ codes "\n")) }
-    ensures cause { OnErr result (Rose (E.faults err.old) (E.faults err.new)) }
-    ensures later { E.faults err.old ≤ E.faults err.new }
+    ensures faults { CountsFaults E.Sink err.old err.new result }
 {
     let mut digits = Buffer::new();
     let mut line = Line::new();
@@ -136,9 +128,7 @@ fn write_still_down<E: Sink>(err: &mut E, number: u64, down: &StillDown) -> Resu
 
 /// Prints the line of a section that leaves something down.
 fn tell_still_down<E: Sink>(err: &mut E, number: u64, down: &StillDown)
-    ensures line { Tells (E.faults err.old) (E.faults err.new) (E.writing err.old) (E.writing err.new)
-        (refusal_line (JudgeError.StillDown number down.now) ++ codes "\n") }
-    ensures later { E.faults err.old ≤ E.faults err.new }
+    ensures { Prints E.Sink err.old err.new (refusal_line (JudgeError.StillDown number down.now) ++ codes "\n") }
 {
     let _ = write_still_down(err, number, down);
 }
@@ -146,9 +136,7 @@ fn tell_still_down<E: Sink>(err: &mut E, number: u64, down: &StillDown)
 /// Prints why streams are not whole.
 #[tactic(auto, unfolding(judge_text::specs::Lines::refusal_line))]
 pub fn tell_whole<E: Sink>(err: &mut E, error: &JudgeError)
-    ensures line { Tells (E.faults err.old) (E.faults err.new) (E.writing err.old) (E.writing err.new)
-        (refusal_line error.now ++ codes "\n") }
-    ensures later { E.faults err.old ≤ E.faults err.new }
+    ensures { Prints E.Sink err.old err.new (refusal_line error.now ++ codes "\n") }
 {
     match error {
         JudgeError::BadLine { line } => tell_number(err, "stream: BadLine ", *line),

@@ -1,7 +1,8 @@
 -- How a text is handed to a sink, write by write.
-use Rattle.std.specs.Prelude.{◌≡◌, ◌<◌, ◌≤◌, ℕ, List, [], ◌∷◌, ◌++◌, length, drop, ◌⊎◌}
+use Rattle.std.specs.Prelude.{◌≡◌, ◌<◌, ◌≤◌, ℕ, List, [], ◌∷◌, ◌++◌, length, drop, ◌⊎◌, Result, OnErr}
 use Rattle.outside_io.specs.Trace.{Write, Writing}
 use Rattle.outside_io.specs.Outside.{Rose}
+use Rattle.outside_io.specs.declared.outside.Sink.{Ghosts}
 use Rattle.text_pieces.specs.Long.{AreLong}
 use Rattle.text_output.specs.Together.{together}
 
@@ -72,3 +73,13 @@ pub record StopsText (before now : Writing) (text : List ℕ) : Type 0 where
 abbrev pub Tells : ℕ → ℕ → Writing → Writing → List ℕ → Type 0
 Tells faults_before faults_now before now line =
     WritesAll before now line ⊎ (Rose faults_before faults_now × StopsWithin before now line)
+
+-- The count of a sink's faults never falls, and an error comes with one more.
+pub record CountsFaults {S A X : Type 0} (sink : Ghosts S) (old new : S) (result : Result A X) : Type 0 where
+  pub cause : OnErr result (Rose (sink.faults old) (sink.faults new))
+  pub later : sink.faults old ≤ sink.faults new
+
+-- A line is printed on a sink, and the count of the sink's faults never falls.
+pub record Prints {S : Type 0} (sink : Ghosts S) (old new : S) (text : List ℕ) : Type 0 where
+  pub line : Tells (sink.faults old) (sink.faults new) (sink.writing old) (sink.writing new) text
+  pub later : sink.faults old ≤ sink.faults new

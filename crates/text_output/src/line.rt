@@ -1,6 +1,5 @@
-ghost use Rattle.std.specs.Prelude.{◌≡◌, ◌≤◌, ◌++◌, [], map, OnOk, OnErr};
-ghost use Rattle.outside_io.specs.Outside.{Rose};
-ghost use Rattle.text_output.specs.Passing.{StopsWithin, WritesAll, WritesUpTo};
+ghost use Rattle.std.specs.Prelude.{◌≡◌, ◌++◌, [], map, OnOk, OnErr};
+ghost use Rattle.text_output.specs.Passing.{CountsFaults, StopsWithin, WritesAll, WritesUpTo};
 ghost use Rattle.text_output.specs.Together.{together};
 
 use crate::output::write_all;
@@ -37,8 +36,7 @@ impl Line {
     pub fn add<E: Sink>(&mut self, err: &mut E, part: &str) -> Result<(), Failed>
         ensures ok { OnOk result (WritesUpTo (E.writing err.old) (E.writing err.new) (self.old ++ part.now) self.new) }
         ensures err { OnErr result (StopsWithin (E.writing err.old) (E.writing err.new) (self.old ++ part.now)) }
-        ensures cause { OnErr result (Rose (E.faults err.old) (E.faults err.new)) }
-        ensures later { E.faults err.old ≤ E.faults err.new }
+        ensures faults { CountsFaults E.Sink err.old err.new result }
     {
         match self.held.try_extend_from_slice(part.as_bytes()) {
             Ok(()) => Ok(()),
@@ -50,8 +48,7 @@ impl Line {
     fn write_through<E: Sink>(&mut self, err: &mut E, part: &str) -> Result<(), Failed>
         ensures ok { OnOk result (WritesUpTo (E.writing err.old) (E.writing err.new) (self.old ++ part.now) self.new) }
         ensures err { OnErr result (StopsWithin (E.writing err.old) (E.writing err.new) (self.old ++ part.now)) }
-        ensures cause { OnErr result (Rose (E.faults err.old) (E.faults err.new)) }
-        ensures later { E.faults err.old ≤ E.faults err.new }
+        ensures faults { CountsFaults E.Sink err.old err.new result }
     {
         write_all(err, self.held.as_slice())?;
         self.held.clear();
@@ -64,8 +61,7 @@ impl Line {
             (self.old ++ together (map (λ p. p.now) parts.now)) self.new) }
         ensures err { OnErr result (StopsWithin (E.writing err.old) (E.writing err.new)
             (self.old ++ together (map (λ p. p.now) parts.now))) }
-        ensures cause { OnErr result (Rose (E.faults err.old) (E.faults err.new)) }
-        ensures later { E.faults err.old ≤ E.faults err.new }
+        ensures faults { CountsFaults E.Sink err.old err.new result }
     {
         for part in parts {
             self.add(err, part)?;
@@ -77,8 +73,7 @@ impl Line {
     pub fn end<E: Sink>(self, err: &mut E) -> Result<(), Failed>
         ensures ok { OnOk result (WritesAll (E.writing err.old) (E.writing err.new) self) }
         ensures err { OnErr result (StopsWithin (E.writing err.old) (E.writing err.new) self) }
-        ensures cause { OnErr result (Rose (E.faults err.old) (E.faults err.new)) }
-        ensures later { E.faults err.old ≤ E.faults err.new }
+        ensures faults { CountsFaults E.Sink err.old err.new result }
     {
         write_all(err, self.held.as_slice())
     }

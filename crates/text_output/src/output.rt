@@ -1,6 +1,5 @@
-ghost use Rattle.std.specs.Prelude.{◌≤◌, [], OnOk, OnErr};
-ghost use Rattle.outside_io.specs.Outside.{Rose};
-ghost use Rattle.text_output.specs.Passing.{StopsPiece, StopsText, StopsWithin, WritesAll, WritesPiece, WritesText};
+ghost use Rattle.std.specs.Prelude.{[], OnOk, OnErr};
+ghost use Rattle.text_output.specs.Passing.{CountsFaults, StopsPiece, StopsText, StopsWithin, WritesAll, WritesPiece, WritesText};
 
 use outside_io::{Failed, Sink};
 use text_pieces::Pieces;
@@ -9,8 +8,7 @@ use text_pieces::Pieces;
 fn write_piece<O: Sink>(out: &mut O, piece: &[u8]) -> Result<(), Failed>
     ensures ok { OnOk result (WritesPiece (O.writing out.old) (O.writing out.new) piece.now []) }
     ensures err { OnErr result (StopsPiece (O.writing out.old) (O.writing out.new) piece.now) }
-    ensures cause { OnErr result (Rose (O.faults out.old) (O.faults out.new)) }
-    ensures later { O.faults out.old ≤ O.faults out.new }
+    ensures faults { CountsFaults O.Sink out.old out.new result }
 {
     let mut at = 0;
     'writes: while at < piece.len() {
@@ -23,8 +21,7 @@ fn write_piece<O: Sink>(out: &mut O, piece: &[u8]) -> Result<(), Failed>
 pub fn write_all<O: Sink>(out: &mut O, text: &[u8]) -> Result<(), Failed>
     ensures ok { OnOk result (WritesAll (O.writing out.old) (O.writing out.new) text.now) }
     ensures err { OnErr result (StopsWithin (O.writing out.old) (O.writing out.new) text.now) }
-    ensures cause { OnErr result (Rose (O.faults out.old) (O.faults out.new)) }
-    ensures later { O.faults out.old ≤ O.faults out.new }
+    ensures faults { CountsFaults O.Sink out.old out.new result }
 {
     write_piece(out, text)
 }
@@ -33,8 +30,7 @@ pub fn write_all<O: Sink>(out: &mut O, text: &[u8]) -> Result<(), Failed>
 pub fn write_text<O: Sink>(out: &mut O, text: &Pieces) -> Result<(), Failed>
     ensures ok { OnOk result (WritesText (O.writing out.old) (O.writing out.new) text.now) }
     ensures err { OnErr result (StopsText (O.writing out.old) (O.writing out.new) text.now) }
-    ensures cause { OnErr result (Rose (O.faults out.old) (O.faults out.new)) }
-    ensures later { O.faults out.old ≤ O.faults out.new }
+    ensures faults { CountsFaults O.Sink out.old out.new result }
 {
     let (before, last) = text.parts();
     for piece in before {

@@ -1,6 +1,5 @@
-ghost use Rattle.std.specs.Prelude.{◌≤◌, ◌++◌, codes, map, OnOk, OnErr};
-ghost use Rattle.outside_io.specs.Outside.{Rose};
-ghost use Rattle.text_output.specs.Passing.{StopsWithin, Tells, WritesAll};
+ghost use Rattle.std.specs.Prelude.{◌++◌, codes, map, OnOk, OnErr};
+ghost use Rattle.text_output.specs.Passing.{CountsFaults, Prints, StopsWithin, WritesAll};
 ghost use Rattle.text_output.specs.Together.{together};
 
 use crate::line::Line;
@@ -13,8 +12,7 @@ fn write_parts<E: Sink>(err: &mut E, parts: &[&str]) -> Result<(), Failed>
         (together (map (λ p. p.now) parts.now))) }
     ensures err { OnErr result (StopsWithin (E.writing err.old) (E.writing err.new)
         (together (map (λ p. p.now) parts.now))) }
-    ensures cause { OnErr result (Rose (E.faults err.old) (E.faults err.new)) }
-    ensures later { E.faults err.old ≤ E.faults err.new }
+    ensures faults { CountsFaults E.Sink err.old err.new result }
 {
     let mut line = Line::new();
     line.add_parts(err, parts)?;
@@ -23,35 +21,28 @@ fn write_parts<E: Sink>(err: &mut E, parts: &[&str]) -> Result<(), Failed>
 
 /// Prints a line on a sink; a fault of the sink changes nothing else.
 pub fn tell<E: Sink>(err: &mut E, line: &str)
-    ensures line { Tells (E.faults err.old) (E.faults err.new) (E.writing err.old) (E.writing err.new) line.now }
-    ensures later { E.faults err.old ≤ E.faults err.new }
+    ensures { Prints E.Sink err.old err.new line.now }
 {
     let _ = write_all(err, line.as_bytes());
 }
 
 /// Prints a line in parts.
 pub fn tell_parts<E: Sink>(err: &mut E, parts: &[&str])
-    ensures line { Tells (E.faults err.old) (E.faults err.new) (E.writing err.old) (E.writing err.new)
-        (together (map (λ p. p.now) parts.now)) }
-    ensures later { E.faults err.old ≤ E.faults err.new }
+    ensures { Prints E.Sink err.old err.new (together (map (λ p. p.now) parts.now)) }
 {
     let _ = write_parts(err, parts);
 }
 
 /// Prints a line of words and what they are about.
 pub fn tell_named<E: Sink>(err: &mut E, words: &str, name: &str)
-    ensures line { Tells (E.faults err.old) (E.faults err.new) (E.writing err.old) (E.writing err.new)
-        ((words.now ++ name.now) ++ codes "\n") }
-    ensures later { E.faults err.old ≤ E.faults err.new }
+    ensures { Prints E.Sink err.old err.new ((words.now ++ name.now) ++ codes "\n") }
 {
     tell_parts(err, &[words, name, "\n"]);
 }
 
 /// Prints a line of words and two things that they are about, with a space between these.
 pub fn tell_pair<E: Sink>(err: &mut E, words: &str, first: &str, second: &str)
-    ensures line { Tells (E.faults err.old) (E.faults err.new) (E.writing err.old) (E.writing err.new)
-        ((words.now ++ (first.now ++ (codes " " ++ second.now))) ++ codes "\n") }
-    ensures later { E.faults err.old ≤ E.faults err.new }
+    ensures { Prints E.Sink err.old err.new ((words.now ++ (first.now ++ (codes " " ++ second.now))) ++ codes "\n") }
 {
     tell_parts(err, &[words, first, " ", second, "\n"]);
 }

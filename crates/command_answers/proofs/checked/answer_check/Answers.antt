@@ -4,6 +4,7 @@ use Rattle.std.proofs.lemmas.Result.{err_from_is_err_and}
 use Rattle.outside_io.specs.Outside.{Entry}
 use Rattle.raw_events.specs.declared.event.RawEvent.{RawEvent}
 use Rattle.raw_events.specs.Line.{Known, known}
+use Rattle.session_plan.specs.Plan.{PlanData}
 use Rattle.session_plan.specs.View.{plan_view}
 use Rattle.command_files.specs.Devices.{devices_of}
 use Rattle.command_files.specs.Inputs.{events_file, events_judged, order_file, order_limit, recording_limit, session_file, session_limit}
@@ -59,18 +60,23 @@ returns-in_err-events-clause-err g c =
     (then_by told before mid now c.args.names.session.now session_file ((name, recording_limit) ∷ (c.args.order.now, order_limit) ∷ []) plan (CheckAnswers name c.args.order.now) fb fm fn refusal c.in_ok-session.ensures.files.later c.in_ok-session.ensures.ok
     (file_by told mid now name (events_file devices) ((c.args.order.now, order_limit) ∷ []) (OrderedBy c.args.order.now plan) fm fn refusal why))
 
-pub read_order-requires-clause-lends : goal.read_order-requires-clause-lends
-read_order-requires-clause-lends g c =
+pub read_order-requires : goal.read_order-requires
+read_order-requires g c =
+    let plan : PlanData = plan_view c.in_ok-session.session in
     let told = g.F.Files.entries c.args.files.now in
-    let plan = plan_view c.in_ok-session.session in
-    let name = c.args.names.events.now in
+    let name : List ℕ = c.args.names.events.now in
     let events : List RawEvent = c.in_ok-events.events.items in
     let second : IsJudged told name (events_judged (devices_of plan)) (Ok events) =
     subst (λ (ds : Known). IsJudged told name (events_judged ds) (Ok events)) (ap known c.deref.ensures.value ∙ c.in_ok-devices.ensures)
     (subst (λ (o : Option (List Entry)). IsJudged o name (events_judged (known c.deref.result.now)) (Ok events)) c.in_ok-session.ensures.files.entries
     c.in_ok-events.ensures.told) in
-    subst (λ (lends : List ℕ → Bool). IsTrue (lends c.args.order.now)) (sym (c.in_ok-events.ensures.files.names ∙ c.in_ok-session.ensures.files.names))
-    (c.requires.order (plan, c.in_ok-session.ensures.told, (events, second)))
+    record {
+      files = record {
+        free = c.in_ok-events.ensures.files.free;
+        lends = subst (λ (lends : List ℕ → Bool). IsTrue (lends c.args.order.now)) (sym (c.in_ok-events.ensures.files.names ∙ c.in_ok-session.ensures.files.names))
+            (c.requires.order (plan, c.in_ok-session.ensures.told, (events, second)));
+      };
+    }
 
 pub returns-in_err-order-clause-err : goal.returns-in_err-order-clause-err
 returns-in_err-order-clause-err g c =

@@ -2,18 +2,18 @@
 use Rattle.std.proofs.Common.{◌++◌, ◌∙◌, ℕ, List, [], ◌∷◌, codes, ap, subst, to_z-of_z}
 use Rattle.std.specs.Fmt.{signed_decimal}
 use Rattle.compare_text.specs.Lines.{differs_at}
-use Rattle.text_output.specs.Passing.{Tells}
+use Rattle.text_output.specs.Passing.{Prints}
 use Rattle.replay_engine.proofs.Parts.{line_of_parts}
 use Rattle.replay_engine.proofs.differing.tell_time.Goals as goal
 
-pub returns-clause-line : goal.returns-clause-line
+pub returns : goal.returns
 unfolding differs_at
-returns-clause-line g c =
+returns g c =
     rw (
       ← c.format-want.ensures.text,
       ← c.format-got.ensures.text,
       ← (c.format-us.ensures.text ∙ ap signed_decimal (to_z-of_z c.ranges.us)),
     )
-    (subst (λ (line : List ℕ). Tells (g.E.Sink.faults c.args.err.now) (g.E.Sink.faults c.tell_parts.new.err) (g.E.Sink.writing c.args.err.now) (g.E.Sink.writing c.tell_parts.new.err) line)
+    (subst (λ (line : List ℕ). Prints g.E.Sink c.args.err.now c.tell_parts.new.err line)
     (line_of_parts (codes "compare: Differs " ∷ c.format-want.result.now ∷ codes " " ∷ c.format-got.result.now ∷ codes " time " ∷ []) c.format-us.result.now (codes "\n"))
-    c.tell_parts.ensures.line)
+    c.tell_parts.ensures)

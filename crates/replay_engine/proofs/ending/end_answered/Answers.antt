@@ -6,7 +6,7 @@ use Rattle.replay_engine.proofs.ending.end_answered.Goals as goal
 
 pub returns-clause-ends : goal.returns-clause-ends
 returns-clause-ends g c = λ q came.
-    ends_refused q _ _ c.in-Err.refusal _ c.end_refused.ensures.status (subst (CameTo q) c.in-Err.is came) refl c.end_refused.ensures.line
+    ends_refused q _ _ c.in-Err.refusal _ c.end_refused.ensures.status (subst (CameTo q) c.in-Err.is came) refl c.end_refused.ensures.printed.line
 
 pub returns-clause-whole : goal.returns-clause-whole
 returns-clause-whole g c = λ zero. absurd (not_whole c.in-Err.refusal (sym c.end_refused.ensures.status ∙ zero))

@@ -2,22 +2,22 @@
 use Rattle.compare_text.specs.Lines.{refusal_line}
 use Rattle.replay_engine.proofs.statuses.tell_same.Goals as goal
 
-pub returns-in-Differs-clause-line : goal.returns-in-Differs-clause-line
+pub returns-in-Differs : goal.returns-in-Differs
 unfolding refusal_line
-returns-in-Differs-clause-line g c = rw c.in-Differs.is c.tell_differs.ensures.line
+returns-in-Differs g c = rw c.in-Differs.is c.tell_differs.ensures
 
-pub returns-in-Missing-clause-line : goal.returns-in-Missing-clause-line
+pub returns-in-Missing : goal.returns-in-Missing
 unfolding refusal_line
-returns-in-Missing-clause-line g c = rw c.in-Missing.is c.tell_number.ensures.line
+returns-in-Missing g c = rw c.in-Missing.is c.tell_number.ensures
 
-pub returns-in-Added-clause-line : goal.returns-in-Added-clause-line
+pub returns-in-Added : goal.returns-in-Added
 unfolding refusal_line
-returns-in-Added-clause-line g c = rw c.in-Added.is c.tell_number-in-Added.ensures.line
+returns-in-Added g c = rw c.in-Added.is c.tell_number-in-Added.ensures
 
-pub returns-in-NoSection-clause-line : goal.returns-in-NoSection-clause-line
+pub returns-in-NoSection : goal.returns-in-NoSection
 unfolding refusal_line
-returns-in-NoSection-clause-line g c = rw c.in-NoSection.is c.tell_number-in-NoSection.ensures.line
+returns-in-NoSection g c = rw c.in-NoSection.is c.tell_number-in-NoSection.ensures
 
-pub returns-in-NewSection-clause-line : goal.returns-in-NewSection-clause-line
+pub returns-in-NewSection : goal.returns-in-NewSection
 unfolding refusal_line
-returns-in-NewSection-clause-line g c = rw c.in-NewSection.is c.tell_number-in-NewSection.ensures.line
+returns-in-NewSection g c = rw c.in-NewSection.is c.tell_number-in-NewSection.ensures

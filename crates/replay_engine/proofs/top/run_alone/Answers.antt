@@ -26,4 +26,4 @@ returns-in-None-clause-ends g c =
     let out : SinkEnds = sink_ends (g.O.Sink.faults c.args.out.now) (g.O.Sink.faults c.args.out.now) (g.O.Sink.writing c.args.out.now) (g.O.Sink.writing c.args.out.now) in
     let err : SinkEnds =
     sink_ends (g.E.Sink.faults c.args.err.now) (g.E.Sink.faults c.end_words-in-None.new.err) (g.E.Sink.writing c.args.err.now) (g.E.Sink.writing c.end_words-in-None.new.err) in
-    ends_fault q out err c.end_words-in-None.result c.end_words-in-None.ensures.status (comes_fault q (sym c.in-None.ensures.value) refl) refl c.end_words-in-None.ensures.line
+    ends_fault q out err c.end_words-in-None.result c.end_words-in-None.ensures.status (comes_fault q (sym c.in-None.ensures.value) refl) refl c.end_words-in-None.ensures.printed.line

@@ -28,7 +28,7 @@ returns-in-None-clause-ends g c =
     let out : SinkEnds = sink_ends (g.O.Sink.faults c.args.out.now) (g.O.Sink.faults c.args.out.now) (g.O.Sink.writing c.args.out.now) (g.O.Sink.writing c.args.out.now) in
     let err : SinkEnds =
     sink_ends (g.E.Sink.faults c.args.err.now) (g.E.Sink.faults c.end_words.new.err) (g.E.Sink.writing c.args.err.now) (g.E.Sink.writing c.end_words.new.err) in
-    ends_fault q out err c.end_words.result c.end_words.ensures.status (comes_fault q (sym c.in-None.ensures.value) refl) refl c.end_words.ensures.line
+    ends_fault q out err c.end_words.result c.end_words.ensures.status (comes_fault q (sym c.in-None.ensures.value) refl) refl c.end_words.ensures.printed.line
 
 pub returns-in-Some-Race-clause-raced : goal.returns-in-Some-Race-clause-raced
 returns-in-Some-Race-clause-raced g c = λ files is done.

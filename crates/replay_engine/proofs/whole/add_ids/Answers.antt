@@ -59,7 +59,7 @@ loop-place-preserved g c =
                 w.add_id.new.line
                 (subst (λ (xs : List ℕ). WritesUpTo start mid all (c.loop-place.line ++ xs)) (id_more ids at w.in-Some.id w.in-Some.ensures) c.loop-place.invariant.written)
                 w.in_ok-add_id.ensures.ok;
-            later = omega (arith, c.loop-place.invariant.later, w.in_ok-add_id.ensures.later);
+            later = omega (arith, c.loop-place.invariant.later, w.in_ok-add_id.ensures.faults.later);
           })
       | in_default w ↦ absurd (w.in_default.not-Some _ (c.nth.ensures ∙ slice_get-get_or ids at 0 (omega (arith, c.loop-place-test.true, c.count-place-end.ensures))))
     ]

@@ -42,7 +42,7 @@ loop-key-preserved g c =
       written = line_on start mid now all c.loop-key.line (key_text h) rest c.add_key.new.line
           (subst (λ (xs : List ℕ). WritesUpTo start mid all (c.loop-key.line ++ xs)) (keys_left ps i h c.loop-key-test.true c.key-item.is) c.loop-key.invariant.written)
           c.in_ok-add_key.ensures.ok;
-      later = omega (arith, c.loop-key.invariant.later, c.in_ok-add_key.ensures.later);
+      later = omega (arith, c.loop-key.invariant.later, c.in_ok-add_key.ensures.faults.later);
     }
 
 -- everything that remains is held

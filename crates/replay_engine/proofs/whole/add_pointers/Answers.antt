@@ -42,7 +42,7 @@ loop-held-preserved g c =
       written = line_on start mid now all c.loop-held.line (held_text h) rest c.add_held.new.line
           (subst (λ (xs : List ℕ). WritesUpTo start mid all (c.loop-held.line ++ xs)) (pointers_left ps i h c.loop-held-test.true c.held-item.is) c.loop-held.invariant.written)
           c.in_ok-add_held.ensures.ok;
-      later = omega (arith, c.loop-held.invariant.later, c.in_ok-add_held.ensures.later);
+      later = omega (arith, c.loop-held.invariant.later, c.in_ok-add_held.ensures.faults.later);
     }
 
 -- everything that remains is held

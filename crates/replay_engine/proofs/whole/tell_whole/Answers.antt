@@ -2,6 +2,6 @@
 use Rattle.judge_text.specs.Lines.{refusal_line}
 use Rattle.replay_engine.proofs.whole.tell_whole.Goals as goal
 
-pub returns-in-Broken-clause-line : goal.returns-in-Broken-clause-line
+pub returns-in-Broken : goal.returns-in-Broken
 unfolding refusal_line
-returns-in-Broken-clause-line g c = rw (c.in-Broken.is, ← c.word.ensures, ← c.format.ensures.text) c.tell_pair.ensures.line
+returns-in-Broken g c = rw (c.in-Broken.is, ← c.word.ensures, ← c.format.ensures.text) c.tell_pair.ensures

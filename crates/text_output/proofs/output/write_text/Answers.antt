@@ -50,7 +50,7 @@ loop-piece-preserved g c =
           (pieces_left ps last i c.piece-item.result c.loop-piece-test.true c.piece-item.is) (items_left ps i c.piece-item.result c.loop-piece-test.true c.piece-item.is)
           c.loop-piece.invariant.written)
           (subst (λ (xs : List ℕ). WritesPiece mid now xs []) c.deref.ensures.value c.in_ok-write_piece.ensures.ok);
-      later = omega (arith, c.loop-piece.invariant.later, c.in_ok-write_piece.ensures.later);
+      later = omega (arith, c.loop-piece.invariant.later, c.in_ok-write_piece.ensures.faults.later);
     }
 
 pub returns-clause-ok : goal.returns-clause-ok

@@ -38,7 +38,7 @@ loop-part-preserved g c =
       written = line_on start mid now all c.loop-part.self _ rest c.add.new.self
           (subst (λ (xs : List ℕ). WritesUpTo start mid all (c.loop-part.self ++ xs)) (parts_left ps i _ c.loop-part-test.true) c.loop-part.invariant.written)
           c.in_ok-add.ensures.ok;
-      later = omega (arith, c.loop-part.invariant.later, c.in_ok-add.ensures.later);
+      later = omega (arith, c.loop-part.invariant.later, c.in_ok-add.ensures.faults.later);
     }
 
 -- everything that remains is held
