@@ -225,6 +225,14 @@ int inputflinger_live_finish(struct inputflinger_live *live, uint64_t now_us,
 	return (int)inputflinger_proved_live_finish(live, now_us, client, seq);
 }
 
+int inputflinger_live_finish_through(struct inputflinger_live *live, uint64_t now_us,
+		const struct inputflinger_client *client, uint64_t seq)
+{
+	if (live == NULL || client == NULL)
+		return INPUTFLINGER_NULL;
+	return (int)inputflinger_proved_live_finish_through(live, now_us, client, seq);
+}
+
 int inputflinger_live_due(const struct inputflinger_live *live, uint64_t *moment_us)
 {
 	struct inputflinger_live own;

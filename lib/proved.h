@@ -46,6 +46,8 @@ uint32_t inputflinger_proved_live_next(struct inputflinger_live *live, const str
 		struct inputflinger_message *message);
 uint32_t inputflinger_proved_live_finish(struct inputflinger_live *live, uint64_t now_us,
 		const struct inputflinger_client *client, uint64_t seq);
+uint32_t inputflinger_proved_live_finish_through(struct inputflinger_live *live, uint64_t now_us,
+		const struct inputflinger_client *client, uint64_t seq);
 uint32_t inputflinger_proved_live_due(struct inputflinger_live *live, uint64_t *moment_us);
 uint32_t inputflinger_proved_live_reserve(struct inputflinger_live *live, uint16_t events);
 uint32_t inputflinger_proved_live_advance(struct inputflinger_live *live, uint64_t now_us, uint64_t *mask);

@@ -157,7 +157,7 @@ class Live:
         done(native.call("live_args_sized", byref(self._handle), u64(now_us), byref(told), ctypes.sizeof(told)))
 
     def open(self) -> Client:
-        """Opens a client on the first channel that nobody has."""
+        """Opens a client on the first free channel."""
         client = native.Client()
         done(native.call("live_open", byref(self._handle), byref(client)))
         return Client(client.channel, client.generation)
@@ -192,7 +192,7 @@ class Live:
         done(native.call("live_focus", byref(self._handle), u64(now_us), u8(display), told))
 
     def pilfer(self, now_us: int, client: Client, device: int) -> None:
-        """Takes the pointers of a device that a client whose window is a spy holds from all other windows."""
+        """Lets a client whose window is a spy take the pointers of a device that it holds from all other windows."""
         done(native.call("live_pilfer", byref(self._handle), u64(now_us), byref(client.plain()), u8(device)))
 
     def waiting(self) -> FrozenSet[int]:
@@ -210,6 +210,10 @@ class Live:
     def finish(self, now_us: int, client: Client, seq: int) -> None:
         """Says that a client is done with a message that it received."""
         done(native.call("live_finish", byref(self._handle), u64(now_us), byref(client.plain()), u64(seq)))
+
+    def finish_through(self, now_us: int, client: Client, seq: int) -> None:
+        """Says that a client is done with every message up to one that it received."""
+        done(native.call("live_finish_through", byref(self._handle), u64(now_us), byref(client.plain()), u64(seq)))
 
     def due(self) -> Optional[int]:
         """The first time at which something is due. While input waits for memory, it is the clock."""

@@ -8,7 +8,7 @@ from inputflinger import native
 MOTION, KEY, FOCUS, RESET = range(4)
 
 FLAG_CANCELED = 0x20
-"""The flag of a POINTER_UP, and of a key that goes up, that is not meant as one."""
+"""The flag of a POINTER_UP, or of a key's up, that must not be acted on."""
 FLAG_OBSCURED = 0x1
 """The mark of a motion whose gesture has a finger that a window of another owner covers."""
 FLAG_PARTLY_OBSCURED = 0x2

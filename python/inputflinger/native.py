@@ -128,6 +128,7 @@ CALLS = {
     "live_waiting": [_HANDLE, _U64],
     "live_next_sized": [_HANDLE, _CLIENT, POINTER(Message), c_size_t],
     "live_finish": [_HANDLE, c_uint64, _CLIENT, c_uint64],
+    "live_finish_through": [_HANDLE, c_uint64, _CLIENT, c_uint64],
     "live_due": [_HANDLE, _U64],
     "live_reserve": [_HANDLE, c_uint16],
     "live_advance": [_HANDLE, c_uint64, _U64],

@@ -19,6 +19,7 @@ def test_a_finger_of_a_panel_reaches_the_window_below_it() -> None:
         panel = live.add_touch(PANEL)
         left, right = live.open(), live.open()
         live.windows(0, [Window(left, Rect(0, 0, 540, 2400)), Window(right, Rect(540, 0, 1080, 2400))])
+        live.reserve(5)
         for kind, code, value in ((EV_ABS, SLOT, 0), (EV_ABS, TRACKING_ID, 45), (EV_ABS, POSITION_X, 600), (EV_ABS, POSITION_Y, 200), (EV_SYN, 0, 0)):
             live.event(1000, panel, kind, code, value)
         assert live.waiting() == {2} and live.holds(right, panel) == {0} and live.holds(left, panel) == frozenset()
@@ -32,7 +33,11 @@ def test_a_finger_of_a_panel_reaches_the_window_below_it() -> None:
         assert judge.is_whole() and live.next(right) is None
         live.finish(3000, right, 1)
         assert refused(live.finish, 3000, right, 1) == Status.UNKNOWN_SEQ
+        assert refused(live.finish_through, 4000, right, 3) == Status.UNKNOWN_SEQ
         assert live.clock() == 3000
+        live.finish_through(4000, right, 2)
+        assert refused(live.finish, 4000, right, 2) == Status.UNKNOWN_SEQ
+        assert live.clock() == 4000 and live.due() is None
 
 
 def test_a_key_is_repeated_and_a_client_is_late() -> None:

@@ -306,6 +306,8 @@ static int calling(const struct line *line)
 		return inputflinger_live_pilfer(&live, line->n[0], client(line->n[1]), (uint8_t)line->n[2]);
 	if (is(line, "finish", 3))
 		return inputflinger_live_finish(&live, line->n[0], client(line->n[1]), line->n[2]);
+	if (is(line, "finish_through", 3))
+		return inputflinger_live_finish_through(&live, line->n[0], client(line->n[1]), line->n[2]);
 	return doing(line);
 }
 

@@ -245,6 +245,25 @@ static void finish(struct side *side, uint32_t i, uint64_t call)
 		s->taken++;
 }
 
+static void finish_through(struct side *side, uint32_t i, uint64_t call)
+{
+	struct inputflinger_client k = client(side, i);
+	struct seat *s = seat_of(side, &k);
+	uint64_t now = moment(side), seq = s == NULL ? below(100) : s->taken + below(4);
+	int status = inputflinger_live_finish_through(&side->live, now, &k, seq);
+
+	if (!side->is_open)
+		demand(status == INPUTFLINGER_FREE, "finish_through of a free handle", call);
+	else if (!is_moment(now))
+		demand(status == INPUTFLINGER_OUT_OF_RANGE, "finish_through out of range", call);
+	else if (s == NULL)
+		demand(status == INPUTFLINGER_NOT_OPEN, "finish_through of a client that is not open", call);
+	else
+		demand(status == (seq <= s->got ? INPUTFLINGER_OK : INPUTFLINGER_UNKNOWN_SEQ), "finish_through", call);
+	if (s != NULL && status == INPUTFLINGER_OK)
+		s->taken = seq;
+}
+
 /* A device with keys, whose layout is of words that layouts have and of others. */
 static void add_keys(struct side *side)
 {
@@ -316,8 +335,10 @@ int main(int count, char **words)
 			ready(side);
 		else if (what < 44)
 			get(side, i, call), got += side->seats[i].got > 0;
-		else if (what < 58)
+		else if (what < 54)
 			finish(side, i, call);
+		else if (what < 58)
+			finish_through(side, i, call);
 		else if (what < 60)
 			inputflinger_live_advance(&side->live, moment(side), &mask);
 		else

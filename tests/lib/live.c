@@ -97,6 +97,7 @@ static void free_handles(void)
 	CHECK(inputflinger_live_add_keys(&live, 0, "", 0, &device, &number) == INPUTFLINGER_FREE && device == 7 && number == 7);
 	CHECK(inputflinger_live_remove_device(&live, 0, 1) == INPUTFLINGER_FREE);
 	CHECK(inputflinger_live_event(&live, 0, 1, 0, 0, 0) == INPUTFLINGER_FREE);
+	CHECK(inputflinger_live_reserve(&live, 1) == INPUTFLINGER_FREE);
 	CHECK(inputflinger_live_args(&live, 0, &m) == INPUTFLINGER_FREE);
 	CHECK(inputflinger_live_open(&live, &client) == INPUTFLINGER_FREE);
 	CHECK(inputflinger_live_close(&live, 0, &client) == INPUTFLINGER_FREE);
@@ -108,6 +109,7 @@ static void free_handles(void)
 	CHECK(inputflinger_live_waiting(&live, &number) == INPUTFLINGER_FREE && number == 7);
 	CHECK(inputflinger_live_next(&live, &client, &m) == INPUTFLINGER_FREE);
 	CHECK(inputflinger_live_finish(&live, 0, &client, 1) == INPUTFLINGER_FREE);
+	CHECK(inputflinger_live_finish_through(&live, 0, &client, 1) == INPUTFLINGER_FREE);
 	CHECK(inputflinger_live_due(&live, &number) == INPUTFLINGER_FREE && number == 7);
 	CHECK(inputflinger_live_advance(&live, 0, &number) == INPUTFLINGER_FREE && number == 7);
 	CHECK(inputflinger_live_clock(&live, &number) == INPUTFLINGER_FREE && number == 7);
@@ -138,6 +140,7 @@ static void nulls(void)
 	CHECK(inputflinger_live_add_keys(&live, 0, "", 0, NULL, &number) == INPUTFLINGER_NULL);
 	CHECK(inputflinger_live_remove_device(NULL, 0, 1) == INPUTFLINGER_NULL);
 	CHECK(inputflinger_live_event(NULL, 0, 1, 0, 0, 0) == INPUTFLINGER_NULL);
+	CHECK(inputflinger_live_reserve(NULL, 1) == INPUTFLINGER_NULL);
 	CHECK(inputflinger_live_args(NULL, 0, &m) == INPUTFLINGER_NULL);
 	CHECK(inputflinger_live_args(&live, 0, NULL) == INPUTFLINGER_NULL);
 	CHECK(inputflinger_live_open(NULL, &client) == INPUTFLINGER_NULL);
@@ -162,6 +165,8 @@ static void nulls(void)
 	CHECK(inputflinger_live_next(&live, &client, NULL) == INPUTFLINGER_NULL);
 	CHECK(inputflinger_live_finish(NULL, 0, &client, 1) == INPUTFLINGER_NULL);
 	CHECK(inputflinger_live_finish(&live, 0, NULL, 1) == INPUTFLINGER_NULL);
+	CHECK(inputflinger_live_finish_through(NULL, 0, &client, 1) == INPUTFLINGER_NULL);
+	CHECK(inputflinger_live_finish_through(&live, 0, NULL, 1) == INPUTFLINGER_NULL);
 	CHECK(inputflinger_live_due(NULL, &number) == INPUTFLINGER_NULL);
 	CHECK(inputflinger_live_due(&live, NULL) == INPUTFLINGER_NULL);
 	CHECK(inputflinger_live_advance(NULL, 0, &number) == INPUTFLINGER_NULL);
@@ -477,6 +482,53 @@ static void keys_and_time(void)
 	OK(inputflinger_live_free(&live));
 }
 
+/* Every message up to one is finished, those between that are finished already left out. */
+static void finished_through(void)
+{
+	static const uint8_t actions[4] = {INPUTFLINGER_DOWN, INPUTFLINGER_MOVE, INPUTFLINGER_MOVE, INPUTFLINGER_UP};
+	live_t live = {0};
+	client_t client = {0}, gone = {9, 3};
+	struct inputflinger_window one;
+	uint64_t number = 77;
+	uint8_t device = 0;
+
+	OK(inputflinger_live_new(&live, LIMIT, NULL));
+	OK(inputflinger_live_add_touch(&live, 0, 10, &panel, &device));
+	OK(inputflinger_live_open(&live, &client));
+	one = window(client, 0);
+	OK(show(&live, &one, 1, NULL));
+	for (uint64_t i = 0; i < 4; i++) {
+		message_t m = motion(1, actions[i], 0, 0x1, 540, 1200 + (int32_t)i);
+
+		OK(inputflinger_live_args(&live, 1000 * (i + 1), &m));
+	}
+	CHECK(inputflinger_live_finish_through(&live, 5000, &client, 1) == INPUTFLINGER_UNKNOWN_SEQ);
+	for (uint64_t i = 1; i < 4; i++)
+		CHECK(next(&live, client).seq == i);
+	OK(inputflinger_live_finish(&live, 4000, &client, 2));
+	CHECK(inputflinger_live_finish_through(&live, 5000, &client, 4) == INPUTFLINGER_UNKNOWN_SEQ);
+	CHECK(inputflinger_live_finish_through(&live, 5000, &client, UINT64_MAX) == INPUTFLINGER_UNKNOWN_SEQ);
+	CHECK(inputflinger_live_finish_through(&live, 5000, &gone, 1) == INPUTFLINGER_NOT_OPEN);
+	CHECK(inputflinger_live_finish_through(&live, LATEST + 1, &client, 1) == INPUTFLINGER_OUT_OF_RANGE);
+	OK(inputflinger_live_clock(&live, &number));
+	CHECK(number == 4000);
+	OK(inputflinger_live_finish_through(&live, 4000, &client, 0));
+	OK(inputflinger_live_due(&live, &number));
+	CHECK(number == 1000 + LIMIT);
+	OK(inputflinger_live_finish_through(&live, 5000, &client, 3));
+	OK(inputflinger_live_clock(&live, &number));
+	CHECK(number == 5000);
+	for (uint64_t i = 1; i < 5; i++)
+		CHECK(inputflinger_live_finish(&live, 5000, &client, i) == INPUTFLINGER_UNKNOWN_SEQ);
+	OK(inputflinger_live_due(&live, &number));
+	CHECK(number == 4000 + LIMIT);
+	OK(inputflinger_live_finish_through(&live, 5000, &client, 3));
+	CHECK(next(&live, client).seq == 4);
+	OK(inputflinger_live_finish_through(&live, 5000, &client, 4));
+	CHECK(inputflinger_live_due(&live, &number) == INPUTFLINGER_NOTHING);
+	OK(inputflinger_live_free(&live));
+}
+
 /* The finger of the header's page, and a handle that is moved under it. */
 static void closed_under_a_finger(void)
 {
@@ -583,6 +635,7 @@ int main(int count, char **words)
 	windows();
 	fingers();
 	keys_and_time();
+	finished_through();
 	closed_under_a_finger();
 	return 0;
 }

@@ -1,7 +1,8 @@
 /*
  * Want of memory. One request of the library for memory fails, the first of a life of a service and a judge, then the
  * second of the same life, and so on to the last one: the call says so and is made once more, or what it took waits, and
- * in the end all clients were told the same. The three calls of the allocator stand here in place of lib/heap.c.
+ * in the end all clients were told the same. Then all of that again with room reserved before each event: no event waits.
+ * The three calls of the allocator stand here in place of lib/heap.c.
  */
 #include <stdio.h>
 #include <stdlib.h>
@@ -73,6 +74,9 @@ struct life {
 
 static unsigned refused, waited;
 
+/* Room is made for each event before it: then none waits. */
+static bool reserves;
+
 /* What a call comes to: OK, or, where memory was wanting, what the same call says once more. */
 #define AGAIN(call)                                                              \
 	do {                                                                     \
@@ -98,12 +102,16 @@ static void given(struct life *life, int status)
 
 static void event(struct life *life, uint8_t device, uint16_t type, uint16_t code, int32_t value)
 {
-	int status = inputflinger_live_event(&life->live, life->now, device, type, code, value);
+	int status;
 
+	if (reserves)
+		AGAIN(inputflinger_live_reserve(&life->live, 1));
+	status = inputflinger_live_event(&life->live, life->now, device, type, code, value);
 	if (status == INPUTFLINGER_NO_MEMORY) {
 		refused++;
 		status = inputflinger_live_event(&life->live, life->now, device, type, code, value);
 	}
+	CHECK(!reserves || status == INPUTFLINGER_OK);
 	given(life, status);
 }
 
@@ -140,8 +148,10 @@ static void get(struct life *life, const struct inputflinger_client *client)
 		CHECK(life->count < 64);
 		life->told[life->count++] = m;
 		AGAIN(inputflinger_judge_step(&life->judge, &m, NULL));
-		AGAIN(inputflinger_live_finish(&life->live, life->now, client, m.seq));
+		if (m.seq % 2 == 0)
+			AGAIN(inputflinger_live_finish(&life->live, life->now, client, m.seq));
 	}
+	AGAIN(inputflinger_live_finish_through(&life->live, life->now, client, m.seq));
 	CHECK(status == INPUTFLINGER_NOTHING);
 }
 
@@ -265,22 +275,32 @@ static void runs(void)
 	CHECK(not_begun > 0 && ended > 0);
 }
 
+/* Lives in each of which one request for memory fails: the first, then the second, and so on to the last. */
+static void lives(const struct life *wanted)
+{
+	static struct life life;
+	long count = 0;
+
+	do {
+		memset(&life, 0, sizeof life);
+		failed = false;
+		granted = count++;
+		live_on(&life);
+		same(&life, wanted);
+	} while (failed);
+}
+
 int main(void)
 {
-	static struct life wanted, life;
-	unsigned lives = 0;
+	static struct life wanted;
 
 	failed = true;
 	live_on(&wanted);
 	CHECK(refused == 0 && waited == 0 && wanted.count > 10);
-	do {
-		memset(&life, 0, sizeof life);
-		failed = false;
-		granted = lives++;
-		live_on(&life);
-		same(&life, &wanted);
-	} while (failed);
+	lives(&wanted);
 	CHECK(refused > 10 && waited > 0);
+	reserves = true;
+	lives(&wanted);
 	runs();
 	return 0;
 }

@@ -1,9 +1,14 @@
--- Calls that only look at a service.
+-- Calls of a service in its handle.
 use Rattle.std.proofs.Common.{◌≡◌, ℕ, Option, Some, sym, subst}
 use Rattle.live_input.specs.State.{LiveState}
 use Rattle.inputflinger_c.specs.Serving.{OnService}
 
+-- the handle has the service as it is then, and this holds of what it was and is
+pub called_on : (o : Option LiveState) (status : ℕ) (n : Option LiveState) (U : Type 0) (s t : LiveState) (G : LiveState → LiveState → Type 0)
+    → Some s ≡ o → n ≡ Some t → G s t → OnService o status n U G
+called_on o status n U s t G was is goes = subst (λ p. OnService p status n U G) was (subst (λ p. OnService (Some s) status p U G) (sym is) goes)
+
 -- the handle has the service that it had, and this holds of it
 pub looked_at : (o : Option LiveState) (status : ℕ) (n : Option LiveState) (U : Type 0) (s : LiveState) (G : LiveState → LiveState → Type 0)
     → Some s ≡ o → n ≡ Some s → G s s → OnService o status n U G
-looked_at o status n U s G was is goes = subst (λ p. OnService p status n U G) was (subst (λ p. OnService (Some s) status p U G) (sym is) goes)
+looked_at o status n U s G was is goes = called_on o status n U s s G was is goes

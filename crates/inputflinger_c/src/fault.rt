@@ -5,11 +5,11 @@ ghost use Rattle.inputflinger_c.specs.Faults.{plain_fault, reason_number};
 use gesture_verifier::{Fault, Reason};
 use plain_calls::flag;
 
-/// Why a message may not come, and what the window knew: `struct inputflinger_fault`.
+/// Why a message is not allowed, and what the window knew: `struct inputflinger_fault`.
 #[repr(C)]
 #[derive(Clone, Copy, Debug)]
 pub struct PlainFault {
-    /// How many messages were accepted before, saturated at the greatest u64.
+    /// How many messages were accepted before. The count saturates at the greatest u64.
     pub place: u64,
     /// The repeat number that the next down of the message's key must have, which may be 2^32; 0 if the key is up or
     /// the message is not about a key.

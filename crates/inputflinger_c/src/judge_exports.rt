@@ -45,10 +45,10 @@ pub extern "C" fn inputflinger_proved_judge_free(alloc: Global, judge: &mut Judg
     }
 }
 
-/// Accepts the next message of the stream, or says why it may not come.
+/// Accepts the next message of the stream, or reports why it is not allowed.
 ///
-/// `FREE` if the handle is free, `RANGE` if a number of the message is out of its range, `MEMORY` if memory runs out
-/// at a key message, and `BROKEN` exactly if the stream with this message is not well-formed. Only `BROKEN` writes
+/// `FREE` if the handle is free, `RANGE` if a number of the message is out of its range, `MEMORY` if memory runs out at
+/// a key message, and `BROKEN` exactly if the stream with this message is not well-formed. Only `BROKEN` writes
 /// `fault`, and only `OK` changes the judge.
 #[unsafe(no_mangle)]
 pub extern "C" fn inputflinger_proved_judge_step(
@@ -84,8 +84,8 @@ fn step(verifier: &mut Verifier, message: &Message, fault: &mut PlainFault) -> u
     }
 }
 
-/// Returns which pointers are down on each device, and whether the window has the focus. `FREE` if the handle is
-/// free; `state` then stays as it was.
+/// Writes which pointers are down on each device, and whether the window has the focus. `FREE` if the handle is free;
+/// `state` then stays as it was.
 #[unsafe(no_mangle)]
 pub extern "C" fn inputflinger_proved_judge_state(
     alloc: Global,
@@ -102,7 +102,7 @@ pub extern "C" fn inputflinger_proved_judge_state(
     OK
 }
 
-/// Returns the keys that are down, in rising order of their devices and scan codes, and how many there are.
+/// Writes the keys that are down, in rising order of their devices and scan codes, and how many there are.
 ///
 /// `FREE` if the handle is free, and `MEMORY` if memory runs out; then nothing is written. `ROOM` if there are more
 /// keys than places: then only `count` is written.
@@ -123,7 +123,7 @@ pub extern "C" fn inputflinger_proved_judge_keys(
     status
 }
 
-/// Returns the keys that are down in a stream.
+/// Writes the keys that are down in a stream.
 fn send_keys(alloc: Global, verifier: &Verifier, places: &mut [PlainKey], count: &mut usize) -> u32
     ensures { KeysSent (nat_eq result no_memory) result verifier.now places.old places.new count.old count.new }
 {

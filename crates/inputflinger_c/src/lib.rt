@@ -1,6 +1,6 @@
-//! The service for programs in C, and for those in languages that call C.
+//! The live service, the judge and runs of the program, for C and for languages that call C.
 //!
-//! A compositor keeps a live service in a handle (`service`), whose calls are those of `plain_calls`:
+//! A compositor keeps a live service in a handle (`service`). Its calls are those of `plain_calls`:
 //!
 //! ```text
 //! inputflinger_live_new    of a handle whose bytes are 0     0, and the handle has a service
@@ -9,8 +9,8 @@
 //! inputflinger_live_open                                     1: the handle is free
 //! ```
 //!
-//! A window that is sent a well-formed stream sees whole gestures. A test of a toolkit shows a judge the messages
-//! that a window received, one by one, to learn which one makes the stream ill-formed:
+//! A window that is sent a well-formed stream sees whole gestures. The test of a toolkit shows a judge the messages
+//! that a window received, one by one, and learns which one breaks the stream:
 //!
 //! ```text
 //! inputflinger_judge_new   of a handle whose bytes are 0     0, and the handle has a judge
@@ -20,17 +20,17 @@
 //! inputflinger_judge_free                                    0, and the handle is free
 //! ```
 //!
-//! A program that keeps recordings runs one as `inputflinger replay` does, without files (`plain_run`):
+//! A program that keeps recordings runs one as `inputflinger replay` does, from memory (`plain_run`):
 //!
 //! ```text
 //! inputflinger_run    replay --session 1 --events 2, of two files    0, and the text is in the buffer of the caller
 //! ```
 //!
-//! Each export takes what C can hand in: numbers, structs of numbers, and a handle, which owns a block of the C
-//! library's allocator or nothing. Its clause says what it returns and what the handle has then, in the definitions
-//! of `plain_calls`, `live_input` and `gesture_verifier`. Only `unboxed`, `live_cell` and `judge_cell` contain raw
-//! pointers. C must provide what the types say: a pointer that is not null and that nothing else uses during the
-//! call, and a handle that was made by these calls or whose bytes are all 0.
+//! Each export takes what C can hand in: numbers, structs of numbers, and a handle. A handle owns a block of the C
+//! library's allocator, or nothing. The clause of an export says what it returns and what the handle has then, by the
+//! definitions of `plain_calls`, `live_input` and `gesture_verifier`. Only `unboxed`, `live_cell` and `judge_cell`
+//! contain raw pointers. C must provide what the types say: a pointer that is not null and that nothing else uses
+//! during the call, and a handle that these calls made or whose bytes are all 0.
 #![tactic(auto)]
 
 mod fault;
@@ -39,11 +39,16 @@ mod judge_cell;
 mod judge_exports;
 mod judge_keys;
 mod judge_state;
+mod live_asking;
 mod live_cell;
+mod live_clients;
 mod live_driving;
 mod live_exports;
-mod live_getting;
+mod live_giving;
+mod live_messages;
+mod live_plugging;
 mod live_showing;
+mod live_through;
 mod run_exports;
 mod service;
 mod sizes;

@@ -1,18 +1,14 @@
 //! Creating and freeing a live service, and its clients that come and go.
-ghost use Rattle.std.specs.Prelude.{◌≡◌, ⊤, IfOk};
-ghost use Rattle.plain_calls.specs.Calling.{Reads, Replies, ok_of, written};
-ghost use Rattle.plain_calls.specs.Clients.{client_of, plain_client};
-ghost use Rattle.plain_calls.specs.Coming.{Opened, Closed};
-ghost use Rattle.plain_calls.specs.Numbers.{limit_of, moment_of};
-ghost use Rattle.plain_calls.specs.Replies.{open_status, close_status};
+ghost use Rattle.std.specs.Prelude.{IfOk};
+ghost use Rattle.plain_calls.specs.Numbers.{limit_of};
 ghost use Rattle.plain_calls.specs.Screens.{displays_of};
-ghost use Rattle.inputflinger_c.specs.Serving.{Begins, LiveFrees, LiveOpens, OnService};
+ghost use Rattle.inputflinger_c.specs.Serving.{Begins, LiveFrees, LiveOpens};
 
 use crate::service::Service;
 use input_types::{Displays, Limit};
 use live_input::Live;
 use plain_calls::status::{FREE, MEMORY, OK, RANGE, TAKEN};
-use plain_calls::{PlainClient, PlainDisplays, coming, limit_of};
+use plain_calls::{PlainDisplays, limit_of};
 use std::alloc::{AllocError, Global};
 
 /// Puts a service without clients into a free handle, with its devices on these displays and this limit for messages
@@ -45,7 +41,7 @@ pub extern "C" fn inputflinger_proved_live_new(
     }
 }
 
-/// A service at its start, in its own block.
+/// A new service in a block of its own.
 fn boxed(alloc: Global, limit: Limit, displays: &Displays) -> Result<Box<Live>, AllocError>
     ensures { IfOk result (λ b. Begins limit displays.now b.value) }
 {
@@ -62,43 +58,4 @@ pub extern "C" fn inputflinger_proved_live_free(alloc: Global, live: &mut Servic
         Some(_) => OK,
         None => FREE,
     }
-}
-
-/// Opens a client; see `coming::open`. `FREE` if the handle is free.
-#[unsafe(no_mangle)]
-pub extern "C" fn inputflinger_proved_live_open(
-    alloc: Global,
-    live: &mut Service,
-    client: &mut PlainClient,
-) -> u32
-    ensures { OnService live.old.cell.state result live.new.cell.state (client.new ≡ client.old)
-        (λ old new. Replies open_status result
-        (λ r. Opened old new r × (client.new ≡ written plain_client (ok_of r) client.old))) }
-{
-    let Some(mut service) = live.take(alloc) else {
-        return FREE;
-    };
-    let status = coming::open(&mut service, client);
-    live.put(service);
-    status
-}
-
-/// Closes a client; see `coming::close`. `FREE` if the handle is free.
-#[unsafe(no_mangle)]
-pub extern "C" fn inputflinger_proved_live_close(
-    alloc: Global,
-    live: &mut Service,
-    now_us: u64,
-    client: &PlainClient,
-) -> u32
-    ensures { OnService live.old.cell.state result live.new.cell.state ⊤
-        (λ old new. Reads (moment_of now_us) result (new ≡ old)
-        (λ now. Replies close_status result (Closed now (client_of client.now) old new))) }
-{
-    let Some(mut service) = live.take(alloc) else {
-        return FREE;
-    };
-    let status = coming::close(&mut service, now_us, client);
-    live.put(service);
-    status
 }

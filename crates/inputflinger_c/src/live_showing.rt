@@ -1,19 +1,17 @@
 //! The windows of a live service, the focus, and what can be asked about its clients.
 ghost use Rattle.std.specs.Prelude.{◌≡◌, ⊤, nat_eq};
-ghost use Rattle.live_input.specs.Seats.{is_open};
-ghost use Rattle.plain_calls.specs.Asking.{client_on, AnswersClient, HasFocus, GetsKeys, Responds, Holds, IsClock};
-ghost use Rattle.plain_calls.specs.Calling.{Reads, Replies, answer_status, written};
-ghost use Rattle.plain_calls.specs.Clients.{client_of, maybe_client, plain_client};
-ghost use Rattle.plain_calls.specs.Numbers.{device_of, display_of, flag, moment_of};
+ghost use Rattle.plain_calls.specs.Calling.{Reads, Replies};
+ghost use Rattle.plain_calls.specs.Clients.{maybe_client};
+ghost use Rattle.plain_calls.specs.Numbers.{display_of, moment_of};
 ghost use Rattle.plain_calls.specs.Replies.{focus_status};
 ghost use Rattle.plain_calls.specs.Showing.{Asked, NothingShown, ShowsRead};
-ghost use Rattle.plain_calls.specs.Status.{is_ok, no_memory};
+ghost use Rattle.plain_calls.specs.Status.{no_memory};
 ghost use Rattle.plain_calls.specs.Windows.{windows_from};
 ghost use Rattle.inputflinger_c.specs.Serving.{OnService};
 
 use crate::service::Service;
-use plain_calls::status::{FREE, OK};
-use plain_calls::{PlainClient, PlainRect, PlainWindow, asking, showing};
+use plain_calls::status::FREE;
+use plain_calls::{PlainClient, PlainRect, PlainWindow, showing};
 use std::alloc::Global;
 
 /// Replaces the windows; see `showing::windows`. `FREE` if the handle is free.
@@ -59,140 +57,4 @@ pub extern "C" fn inputflinger_proved_live_focus(
     let status = showing::focus(&mut service, now_us, display, client);
     live.put(service);
     status
-}
-
-/// Whether a client is open, as 1 or 0. `FREE` if the handle is free.
-#[unsafe(no_mangle)]
-pub extern "C" fn inputflinger_proved_live_is_open(
-    alloc: Global,
-    live: &mut Service,
-    client: &PlainClient,
-    answer: &mut u8,
-) -> u32
-    ensures { OnService live.old.cell.state result live.new.cell.state (answer.new ≡ answer.old)
-        (λ old new. (result ≡ is_ok) × ((new ≡ old) × (answer.new ≡ flag (is_open old.seats (client_of client.now))))) }
-{
-    let Some(mut service) = live.take(alloc) else {
-        return FREE;
-    };
-    *answer = asking::is_open(&service, client);
-    live.put(service);
-    OK
-}
-
-/// The client that is open on a channel; see `asking::client_at`. `FREE` if the handle is free.
-#[unsafe(no_mangle)]
-pub extern "C" fn inputflinger_proved_live_client_at(
-    alloc: Global,
-    live: &mut Service,
-    channel: u32,
-    client: &mut PlainClient,
-) -> u32
-    ensures { OnService live.old.cell.state result live.new.cell.state (client.new ≡ client.old)
-        (λ old new. (new ≡ old) × AnswersClient result (client_on old channel) client.old client.new) }
-{
-    let Some(mut service) = live.take(alloc) else {
-        return FREE;
-    };
-    let status = asking::client_at(&service, channel, client);
-    live.put(service);
-    status
-}
-
-/// The client that has the focus of a display; see `asking::focused`. `FREE` if the handle is free.
-#[unsafe(no_mangle)]
-pub extern "C" fn inputflinger_proved_live_focused(
-    alloc: Global,
-    live: &mut Service,
-    display: u8,
-    client: &mut PlainClient,
-) -> u32
-    ensures { OnService live.old.cell.state result live.new.cell.state (client.new ≡ client.old)
-        (λ old new. (new ≡ old) × Reads (display_of display) result (client.new ≡ client.old)
-        (λ y. Replies answer_status result
-        (λ r. HasFocus old y r × (client.new ≡ written plain_client r client.old)))) }
-{
-    let Some(mut service) = live.take(alloc) else {
-        return FREE;
-    };
-    let status = asking::focused(&service, display, client);
-    live.put(service);
-    status
-}
-
-/// The client that keys go to; see `asking::key_target`. `FREE` if the handle is free.
-#[unsafe(no_mangle)]
-pub extern "C" fn inputflinger_proved_live_key_target(
-    alloc: Global,
-    live: &mut Service,
-    client: &mut PlainClient,
-) -> u32
-    ensures { OnService live.old.cell.state result live.new.cell.state (client.new ≡ client.old)
-        (λ old new. (new ≡ old) × Replies answer_status result
-        (λ r. GetsKeys old r × (client.new ≡ written plain_client r client.old))) }
-{
-    let Some(mut service) = live.take(alloc) else {
-        return FREE;
-    };
-    let status = asking::key_target(&service, client);
-    live.put(service);
-    status
-}
-
-/// Whether a client is open and responds, as 1 or 0. `FREE` if the handle is free.
-#[unsafe(no_mangle)]
-pub extern "C" fn inputflinger_proved_live_is_responsive(
-    alloc: Global,
-    live: &mut Service,
-    client: &PlainClient,
-    answer: &mut u8,
-) -> u32
-    ensures { OnService live.old.cell.state result live.new.cell.state (answer.new ≡ answer.old)
-        (λ old new. (result ≡ is_ok) × ((new ≡ old) × Responds old (client_of client.now) answer.new)) }
-{
-    let Some(mut service) = live.take(alloc) else {
-        return FREE;
-    };
-    *answer = asking::is_responsive(&service, client);
-    live.put(service);
-    OK
-}
-
-/// The ids of the pointers of a device that a client holds; see `asking::holds`. `FREE` if the handle is free.
-#[unsafe(no_mangle)]
-pub extern "C" fn inputflinger_proved_live_holds(
-    alloc: Global,
-    live: &mut Service,
-    client: &PlainClient,
-    device: u8,
-    ids: &mut u32,
-) -> u32
-    ensures { OnService live.old.cell.state result live.new.cell.state (ids.new ≡ ids.old)
-        (λ old new. (new ≡ old) × Reads (device_of device) result (ids.new ≡ ids.old)
-        (λ d. (result ≡ is_ok) × Holds old (client_of client.now) d ids.new)) }
-{
-    let Some(mut service) = live.take(alloc) else {
-        return FREE;
-    };
-    let status = asking::holds(&service, client, device, ids);
-    live.put(service);
-    status
-}
-
-/// The clock: the latest moment of any call, in microseconds. `FREE` if the handle is free.
-#[unsafe(no_mangle)]
-pub extern "C" fn inputflinger_proved_live_clock(
-    alloc: Global,
-    live: &mut Service,
-    moment_us: &mut u64,
-) -> u32
-    ensures { OnService live.old.cell.state result live.new.cell.state (moment_us.new ≡ moment_us.old)
-        (λ old new. (result ≡ is_ok) × ((new ≡ old) × IsClock old moment_us.new)) }
-{
-    let Some(mut service) = live.take(alloc) else {
-        return FREE;
-    };
-    *moment_us = asking::clock(&service);
-    live.put(service);
-    OK
 }

@@ -8,7 +8,7 @@ use live_input::Live;
 use std::alloc::Global;
 use std::mem;
 
-/// `struct inputflinger_live`: a live service, or nothing while it is free. It is free where all its bytes are 0.
+/// `struct inputflinger_live`: a live service, or nothing while it is free. It is free if all its bytes are 0.
 #[repr(C)]
 pub struct Service {
     pub cell: LiveCell,
@@ -34,7 +34,7 @@ impl Service {
         self.is_open
     }
 
-    /// Takes the service out of its handle, which is free then. None if it was free before.
+    /// Takes the service out of its handle, which is then free. None if it was free before.
     pub(crate) fn take(&mut self, alloc: Global) -> Option<Box<Live>>
         ensures taken { option_map (λ b. b.value) result ≡ self.old.cell.state }
         ensures free { self.new.cell.state ≡ None }

@@ -1,4 +1,4 @@
-//! What tests of the header hold its structs against.
+//! The sizes of structs, with which tests check the header.
 ghost use Rattle.std.specs.Prelude.{◌≡◌};
 ghost use Rattle.inputflinger_c.specs.Sizes.{size_of};
 
@@ -12,9 +12,9 @@ use plain_calls::{PlainClient, PlainDisplays, PlainMessage, PlainPointer, PlainR
 use plain_run::PlainRan;
 use std::mem::size_of;
 
-/// How many bytes a struct has, by its number: 0 for a judge, 1 for a pointer, 2 for a message, 3 for a fault, 4 for a
-/// state, 5 for a key, 6 for a live service, 7 for a client, 8 for a rectangle, 9 for a window, 10 for an axis, 11 for
-/// a panel, 12 for displays, 13 for what a run came to. 0 for another number.
+/// The size of a struct in bytes, by its number: 0 for a judge, 1 for a pointer, 2 for a message, 3 for a fault, 4 for
+/// a state, 5 for a key, 6 for a live service, 7 for a client, 8 for a rectangle, 9 for a window, 10 for an axis, 11
+/// for a panel, 12 for displays, 13 for the result of a run. 0 for any other number.
 #[unsafe(no_mangle)]
 pub extern "C" fn inputflinger_proved_size(number: u32) -> usize
     ensures { result ≡ size_of number }

@@ -1,11 +1,11 @@
-//! What a box holds together, on its way into a handle.
+//! The parts of a box, on their way into a handle.
 ghost use Rattle.std.specs.Prelude.{◌≡◌};
 ghost use Rattle.std.specs.Box.Ownership.{box_owns};
 
 use std::alloc::Allocator;
 use std::marker::Model;
 
-/// Where the value of a box lies, and the allocator that frees its block: with them goes what the box owned.
+/// Where the value of a box lies, and the allocator that frees its block. Whoever has both owns what the box owned.
 pub struct Unboxed<T, A: Allocator> {
     pub(crate) at: *mut T,
     pub(crate) alloc: A,
@@ -17,7 +17,7 @@ impl<T, A: Allocator> Model for Unboxed<T, A> {
 }
 
 impl<T, A: Allocator> Unboxed<T, A> {
-    /// What a box held together. Nothing is freed.
+    /// Takes a box apart. Nothing is freed.
     pub fn from_box(owner: Box<T, A>) -> Unboxed<T, A>
     where
         T: Drop,

@@ -1,8 +1,8 @@
-//! The main loop of a program that sends its fingers through the live service, as a window manager has it.
+//! The main loop of a program that sends its fingers through the live service, as a window manager does.
 //!
-//! Fixed ones stand in for a kernel and clients: one panel, whose events are a table, and two clients with a window
-//! each, side by side. The left one finishes each message at once. The right one never does, so it is reported after
-//! five seconds, and the finger that it holds is cancelled.
+//! A table of events stands in for the kernel, and two clients side by side for real ones. The left one finishes each
+//! message at once. The right one never does, so it is reported after five seconds, and the finger that it holds is
+//! cancelled.
 #![tactic(auto)]
 
 mod events;
@@ -31,7 +31,7 @@ fn has(mask: u64, channel: u32) -> bool
     mask >> (channel - 1) & 1 == 1
 }
 
-/// Sends a message to the client of a channel. Returns its number.
+/// Prints a message for the client of a channel. Returns its number.
 fn print_message(
     alloc: Global,
     channel: u32,
@@ -44,7 +44,7 @@ fn print_message(
     Ok(Some(seq))
 }
 
-/// Sends a client its next message. Returns its number, if there is one.
+/// Prints the next message of a client. Returns its number, if there is one.
 fn send_next(
     started: &mut Started,
     client: Client,
@@ -75,7 +75,7 @@ fn send_to(
     Ok(())
 }
 
-/// The clients that have something new get it.
+/// Hands each client its new messages.
 fn send(started: &mut Started, now: Moment, out: &mut Vec<u8>) -> Result<(), AllocError> {
     let waiting = started.live.waiting();
     for channel in 1..=64u32 {
@@ -88,7 +88,7 @@ fn send(started: &mut Started, now: Moment, out: &mut Vec<u8>) -> Result<(), All
     Ok(())
 }
 
-/// Advances the clock to a moment: runs everything due, and prints which client does not respond.
+/// Advances the clock to a time, runs everything that is due, and prints which clients do not respond.
 fn advance(started: &mut Started, now: Moment, out: &mut Vec<u8>) -> Result<(), AllocError> {
     let late = started.live.advance(now)?;
     for channel in 1..=64u32 {
@@ -99,7 +99,7 @@ fn advance(started: &mut Started, now: Moment, out: &mut Vec<u8>) -> Result<(), 
     send(started, now, out)
 }
 
-/// An event came.
+/// Takes an event of the panel.
 fn take(
     started: &mut Started,
     event: (u64, u16, u16, i32),
@@ -109,7 +109,7 @@ fn take(
     let Some(now) = Moment::new(at) else {
         return Ok(());
     };
-    // The clock may have passed what was due before the event.
+    // First runs what was due before the event.
     advance(started, now, out)?;
     match started.live.event(now, started.panel, kind, code, value) {
         Ok(()) => send(started, now, out),
@@ -117,7 +117,7 @@ fn take(
     }
 }
 
-/// All events, and then what is due in the seconds after them.
+/// Takes all events, and then runs what is due in the seconds after them.
 fn run(started: &mut Started, out: &mut Vec<u8>) -> Result<(), AllocError> {
     for event in EVENTS {
         take(started, *event, out)?;

@@ -15,7 +15,7 @@ pub(crate) struct Started {
     pub idle: Client,
 }
 
-/// A window of a client, from a left to a right edge.
+/// The window of a client, between a left and a right edge.
 fn window(alloc: Global, client: Client, left: i32, right: i32) -> Option<ClientWindow> {
     let frame = Rect {
         left,
@@ -45,7 +45,7 @@ fn plug_in(live: &mut Live) -> Option<DeviceId> {
     live.add_touch(DisplayId::zero(), 10, cook).ok()
 }
 
-/// The clients have their windows, side by side.
+/// Shows the windows of both clients, side by side.
 fn show(alloc: Global, live: &mut Live, left: Client, right: Client) -> Option<()> {
     let mut windows = Vec::new(alloc);
     windows.push(window(alloc, left, 0, 540)?).ok()?;
@@ -53,7 +53,7 @@ fn show(alloc: Global, live: &mut Live, left: Client, right: Client) -> Option<(
     live.windows(Moment::zero(), windows).ok()
 }
 
-/// Plugs in the panel, and opens and shows two clients. Returns the panel and the right client.
+/// Plugs in the panel, opens two clients and shows their windows. Returns the panel and the right client.
 fn set_up(alloc: Global, live: &mut Live) -> Option<(DeviceId, Client)> {
     let panel = plug_in(live)?;
     let left = live.open().ok()?;

@@ -25,3 +25,5 @@ pub mod Settled
 pub mod Able
 pub mod Fed
 pub mod Roomy
+pub mod Finishing
+pub mod Pinged

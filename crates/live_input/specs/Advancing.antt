@@ -1,4 +1,4 @@
--- What is due up to a moment.
+-- What is due up to a time.
 use Rattle.std.specs.Prelude.{ℕ, ◌≡◌, ◌||◌, List, None}
 use Rattle.window_snapshot.specs.Mask.{mask_has}
 use Rattle.dispatch_calls.specs.declared.call.Call.{Call}

@@ -48,6 +48,16 @@ pub record SameClients (old new : LiveState) : Type 0 where
   pub devices_are : new.devices ≡ old.devices
   pub pending_is : new.pending ≡ old.pending
 
+-- Everything but the history, the windows and the focus requests is the same.
+pub record SameRest (old new : LiveState) : Type 0 where
+  pub seats_are : new.seats ≡ old.seats
+  pub opened_is : new.opened ≡ old.opened
+  pub limit_is : new.limit ≡ old.limit
+  pub devices_are : new.devices ≡ old.devices
+  pub pending_is : new.pending ≡ old.pending
+  pub named_is : new.named ≡ old.named
+  pub clock_is : new.clock ≡ old.clock
+
 -- The clients are the same, and so is the limit.
 pub record SameSeats (old new : LiveState) : Type 0 where
   pub seats_are : new.seats ≡ old.seats

@@ -111,7 +111,7 @@ AnrsLaw =
     (displays : List ℕ) (es : List Effect) (s : LiveState)
     → LiveIs displays es s → drop (anrs_released s.dispatcher) (anrs es) ≡ []
 
--- After everything due up to a moment was done and nothing must be handed in, what is due is later.
+-- After everything due up to a time was done and nothing must be handed in, what is due is later.
 abbrev pub LaterLaw : Type 0
 LaterLaw =
     (now : ℕ) (es : List Effect) (s : LiveState) (t : ℕ)

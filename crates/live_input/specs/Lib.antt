@@ -16,3 +16,4 @@ pub mod Showing
 pub mod Opening
 pub mod Windows
 pub mod Laws
+pub mod Through

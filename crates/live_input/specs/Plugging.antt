@@ -6,7 +6,7 @@ use Rattle.live_input.specs.declared.refused.AddRefused.{AddRefused}
 use Rattle.live_input.specs.declared.refused.AddRefused.TheVariants.{TooMany, BadSlots}
 use Rattle.live_input.specs.State.{LiveState}
 
--- a touch device can have so many slots
+-- a touch device can have this many slots
 abbrev pub is_slots : ℕ → Bool
 is_slots n = nat_le 1 n && nat_le n 16
 

@@ -11,16 +11,16 @@ use Rattle.live_input.specs.State.{LiveState}
 abbrev pub most_args : ℕ
 most_args = 33
 
--- There is room to hand in so many args, and to dispatch so many.
+-- There is room to hand in n args and to dispatch n args.
 pub record HasRoom (n : ℕ) (s : LiveState) : Type 0 where
   pub spare : n ≤ s.dispatcher.queue.spare
   pub pumps : n ≤ s.dispatcher.queue.pumps
 
--- so many calls more can be counted in 64 bits
+-- n more calls can be counted in 64 bits
 abbrev pub MayCountMore : ℕ → List Effect → Type 0
 MayCountMore n es = length es + n < 2 ^ 64 - 1
 
--- What was delivered does not wait, and leaves room for so many args more.
+-- What was handed in does not wait, and leaves room for n more args.
 abbrev pub GoesAtOnce : (n : ℕ) → Result (Unit {0}) ArgsRefused → LiveState → Type 0
 GoesAtOnce n (Err Waits) s = ⊥
 GoesAtOnce n result s = HasRoom n s
@@ -43,7 +43,7 @@ pub record PumpsOver (old new : LiveState) : Type 0 where
       new.dispatcher.queue.place + length new.dispatcher.queue.waiting
       ≡ old.dispatcher.queue.place + length old.dispatcher.queue.waiting
 
--- If there is room for what an event of a device gives, it does not wait, and leaves room for so many args more.
+-- If there is room for what an event of a device gives, it does not wait, and leaves room for n more args.
 abbrev pub GivesAtOnce :
     (n : ℕ) → List Effect → DevicePlan → List RawEvent → RawEvent → Result (Unit {0}) ArgsRefused → (old new : LiveState) → Type 0
 GivesAtOnce n es plan past e result old new =

@@ -14,7 +14,7 @@ use crate::client::{Client, is_open};
 use crate::closing::oldest;
 use crate::live::Live;
 use bits32::Bits32;
-use input_types::{DeviceId, DisplayId};
+use input_types::{DeviceId, DisplayId, Moment};
 use window_snapshot::mask_has;
 
 impl Live {
@@ -43,8 +43,8 @@ impl Live {
         self.focused(self.asked)
     }
 
-    /// Whether a client is open and responds: it was not reported unresponsive, or has since finished a message that
-    /// left none late. A client with nothing to finish responds.
+    /// Whether a client is open and responds: it was not reported, or has since finished a message and left none late.
+    /// A client with nothing to finish responds.
     pub fn is_responsive(&self, client: Client) -> bool
         ensures stale { is_open self.now.seats client ≡ false → result ≡ false }
         ensures open { (ds : List ℕ) (es : List Effect) → LiveIs ds es self.now → is_open self.now.seats client ≡ true
@@ -70,9 +70,17 @@ impl Live {
         }
         self.dispatcher.touches().held(client.channel, device)
     }
+
+    /// The clock: the latest time that was handed in. Each call is made at the clock, even if it is handed an earlier
+    /// time. A call that is refused and changes nothing leaves the clock.
+    pub fn clock(&self) -> Moment
+        ensures { result ≡ self.now.clock }
+    {
+        self.clock
+    }
 }
 
-/// Whether a channel responds whose oldest published and unfinished message is this, and which is due then.
+/// Whether a channel responds, given its oldest published and unfinished message and the time at which that is due.
 fn responds(oldest: Option<u64>, due: Option<u64>) -> bool
     ensures { result ≡ (not (is_some oldest) || is_some due) }
 {

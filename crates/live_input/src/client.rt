@@ -1,4 +1,4 @@
-//! Clients, and the seats that they have.
+//! Clients and their seats.
 ghost use Rattle.std.specs.Prelude.{◌≡◌, true, None, Some};
 ghost use Rattle.dispatcher.specs.Access.{got};
 ghost use Rattle.window_snapshot.specs.Mask.{is_channel};
@@ -9,19 +9,19 @@ use dispatch_calls::Reply;
 use input_types::Message;
 use window_snapshot::is_channel;
 
-/// A client of a live service: a channel and a generation, since clients are opened on a channel one after another.
-/// Once closed it is stale for good: no call mistakes it for a later client of its channel.
+/// A client of a live service: a channel and a generation, since a channel has one client after another. Once closed, a
+/// client is stale for good: no call mistakes it for a later client of its channel.
 #[derive(Clone, Copy, Debug, PartialEq, Eq)]
 pub struct Client {
     pub(crate) channel: u32,
-    /// How many clients were opened up to this one, on any channel.
+    /// How many clients were opened up to and including this one, on any channel.
     pub(crate) generation: u64,
 }
 
 impl Client {
-    /// The client of a channel and a generation, as [`channel`](Client::channel) and
-    /// [`generation`](Client::generation) gave them. Any numbers may be given: each call checks whether the client is
-    /// open.
+    /// The client with a channel and a generation, as [`channel`](Client::channel) and
+    /// [`generation`](Client::generation) returned them. Any numbers may be given: each call checks whether the client
+    /// is open.
     pub fn of(channel: u32, generation: u64) -> Client
         ensures { result ≡ record { channel = channel; generation = generation } }
     {
@@ -31,14 +31,15 @@ impl Client {
         }
     }
 
-    /// The number of its channel, from 1 to 64, as masks have it.
+    /// The number of its channel, from 1 to 64. In a mask, bit `channel - 1` stands for it.
     pub fn channel(&self) -> u32
         ensures { result ≡ self.now.channel }
     {
         self.channel
     }
 
-    /// How many clients were opened up to this one, on any channel. It differs for any two clients of a service.
+    /// How many clients were opened up to and including this one, on any channel. No two clients of a service have the
+    /// same.
     pub fn generation(&self) -> u64
         ensures { result ≡ self.now.generation }
     {
@@ -46,8 +47,8 @@ impl Client {
     }
 }
 
-/// What is kept of a channel: the generation of the client that is open on it, if one is, and how many of its messages
-/// are from before that.
+/// What is kept of a channel: the generation of its open client, if there is one, and how many of its messages came
+/// before that client.
 #[derive(Clone, Copy, Debug, PartialEq, Eq)]
 pub(crate) struct Seat {
     pub(crate) holder: Option<u64>,
@@ -62,14 +63,14 @@ impl Seat {
         self.holder.is_some()
     }
 
-    /// The number in its channel of a message that has this number for the client.
+    /// The channel's number of the message that has this number for the client.
     pub(crate) fn number_of(&self, seq: u64) -> u64
         ensures { result ≡ number_of self.now seq }
     {
         self.before.saturating_add(seq)
     }
 
-    /// What the client gets from the reply to a receive.
+    /// The client's message in the reply to a receive.
     pub(crate) fn handed(&self, reply: &Reply) -> Option<Message>
         ensures { result ≡ handed self.now (got reply.now) }
     {
@@ -106,7 +107,7 @@ pub(crate) fn is_open(seats: &[Seat; 64], client: Client) -> bool
     is_channel(client.channel) && is_of(client.generation, seat_of(seats, client.channel).holder)
 }
 
-/// Whether a holder is of the generation.
+/// Whether the holder has the generation.
 fn is_of(generation: u64, holder: Option<u64>) -> bool
     ensures { result ≡ is_of generation holder }
 {

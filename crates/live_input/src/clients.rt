@@ -11,7 +11,7 @@ ghost use Rattle.window_snapshot.specs.Mask.{is_channel};
 ghost use Rattle.window_snapshot.specs.Named.{is_named};
 ghost use Rattle.live_input.specs.Seats.{IsHeld, is_open, is_held, is_full, client_at, first_vacant};
 ghost use Rattle.live_input.specs.Opening.{Opens, OpensOn, CloseGoes, IsNext, opening};
-ghost use Rattle.live_input.specs.Answers.{SameClients};
+ghost use Rattle.live_input.specs.Answers.{SameRest};
 ghost use Rattle.live_input.specs.Closing.{hidden, forgotten};
 ghost use Rattle.live_input.specs.Settling.{Settles, next_left};
 ghost use Rattle.live_input.specs.Standing.{LiveIs};
@@ -35,7 +35,7 @@ impl Live {
         is_open(&self.seats, client)
     }
 
-    /// The client that is open on a channel, for masks.
+    /// The client that is open on a channel. It turns the bits of masks into clients.
     pub fn client_at(&self, channel: u32) -> Option<Client>
         ensures { result ≡ (if is_channel channel then client_at self.now.seats channel else None) }
     {
@@ -46,10 +46,10 @@ impl Live {
         }
     }
 
-    /// Opens a client on the first channel on which none is open.
+    /// Opens a client on the first channel that has none.
     ///
-    /// A used channel is used again; the new client sees nothing that was sent to it before. No earlier client had
-    /// its generation.
+    /// A channel is used again; its new client receives nothing that was sent before it was opened. No earlier client
+    /// had its generation.
     pub fn open(&mut self) -> Result<Client, OpenRefused>
         ensures full { (result ≡ Err OpenRefused.Full) ↔ (is_full self.old.seats ≡ true) }
         ensures seat { IfOk result (λ client. Opens client self.old self.new) }
@@ -77,7 +77,8 @@ impl Live {
         }
     }
 
-    /// Opens a channel that was not opened yet. Returns how many messages it has. If memory runs out, nothing changes.
+    /// Opens a channel, unless it was opened before. Returns how many messages it has. If memory runs out, nothing
+    /// changes.
     fn open_channel(&mut self, channel: u32) -> Result<u64, AllocError>
         ensures after { (ds : List ℕ) (es : List Effect) → LiveIs ds es self.old → IsNext channel es
             → OnOk result (LiveIs ds (opening ds self.old.limit channel es) self.new) }
@@ -99,8 +100,8 @@ impl Live {
     }
 
     /// Closes a client. Its window is no longer shown, so its pointers and keys are cancelled and it loses the focus.
-    /// Its focus requests are withdrawn, and keys stay on the display to which they went. All its messages are
-    /// received and finished. Nothing of it remains, and its channel can be used again.
+    /// Its focus requests are withdrawn, and keys stay on the display to which they went. All its messages are received
+    /// and finished. Nothing of it remains, and its channel can be used again.
     pub fn close(&mut self, now: Moment, client: Client) -> Result<(), CloseRefused>
         ensures stale { is_open self.old.seats client ≡ false
             → (result ≡ Err CloseRefused.NotOpen) × (self.new ≡ self.old) }
@@ -123,7 +124,7 @@ impl Live {
         }
     }
 
-    /// Removes everything of the client of a channel.
+    /// Takes everything from the client of a channel.
     fn empty(&mut self, now: Moment, channel: u32) -> Result<(), AllocError>
         ensures done { (ds : List ℕ) (es : List Effect) → LiveIs ds es self.old → IsHeld channel self.old.seats
             → OnOk result (Settles ds (next_left now channel)
@@ -133,9 +134,7 @@ impl Live {
             → OnOk result ((y : ℕ) → y < 4 → is_at (slice_index_or self.new.requested y None) channel ≡ false) }
         ensures part { (ds : List ℕ) (es : List Effect) → LiveIs ds es self.old → IsHeld channel self.old.seats
             → TakenInPart ds now channel (asked (past_of es)) es self.new }
-        ensures clients { SameClients self.old self.new }
-        ensures named { self.new.named ≡ self.old.named }
-        ensures clock { self.new.clock ≡ self.old.clock }
+        ensures rest { SameRest self.old self.new }
     {
         self.hide(now, channel)?;
         self.forget(now, channel)?;

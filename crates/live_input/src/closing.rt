@@ -8,7 +8,7 @@ ghost use Rattle.dispatch_history.specs.Focus.{asked, requested};
 ghost use Rattle.dispatch_history.specs.Delivery.{oldest};
 ghost use Rattle.dispatcher.specs.Access.{is_opened};
 ghost use Rattle.dispatcher.specs.Dispatching.{IsAfter};
-ghost use Rattle.live_input.specs.Answers.{SameClients};
+ghost use Rattle.live_input.specs.Answers.{SameRest};
 ghost use Rattle.live_input.specs.Closing.{without, hidden, forgotten_on, forgotten};
 ghost use Rattle.live_input.specs.Seats.{IsHeld};
 ghost use Rattle.live_input.specs.Settling.{Reaches, Settles, next_left};
@@ -24,14 +24,12 @@ use std::alloc::{AllocError, Global};
 use window_snapshot::{Snapshot, Window};
 
 impl Live {
-    /// Shows the windows without that of a channel, if it has one. If memory runs out, nothing changes.
+    /// Shows the windows without the channel's own, if it has one. If memory runs out, nothing changes.
     pub(crate) fn hide(&mut self, now: Moment, channel: u32) -> Result<(), AllocError>
         ensures after { (ds : List ℕ) (es : List Effect) → LiveIs ds es self.old
             → OnOk result (LiveIs ds (hidden ds now channel es) self.new) }
         ensures hidden { OnOk result (is_named self.new.windows channel ≡ false) }
-        ensures clients { SameClients self.old self.new }
-        ensures named { self.new.named ≡ self.old.named }
-        ensures clock { self.new.clock ≡ self.old.clock }
+        ensures rest { SameRest self.old self.new }
         ensures err { OnErr result (self.new ≡ self.old) }
     {
         if !has_window(self.windows.windows(), channel) {
@@ -46,10 +44,8 @@ impl Live {
     fn forget_on(&mut self, now: Moment, display: DisplayId, channel: u32) -> Result<(), AllocError>
         ensures after { (ds : List ℕ) (es : List Effect) → LiveIs ds es self.old
             → OnOk result (LiveIs ds (forgotten_on ds now channel display es) self.new) }
-        ensures clients { SameClients self.old self.new }
+        ensures rest { SameRest self.old self.new }
         ensures windows { self.new.windows ≡ self.old.windows }
-        ensures named { self.new.named ≡ self.old.named }
-        ensures clock { self.new.clock ≡ self.old.clock }
         ensures err { OnErr result (self.new ≡ self.old) }
     {
         if is_at(self.requested_on(display), channel) {
@@ -59,17 +55,15 @@ impl Live {
         }
     }
 
-    /// Requests the focus of each display that was requested for a channel for none, and then restores the display to
-    /// which keys went.
+    /// For each display whose focus was requested for a channel, requests it for none. Then makes the last request once
+    /// more, so that keys stay on its display.
     pub(crate) fn forget(&mut self, now: Moment, channel: u32) -> Result<(), AllocError>
         ensures after { (ds : List ℕ) (es : List Effect) → LiveIs ds es self.old
             → OnOk result (LiveIs ds (forgotten ds now channel es) self.new) }
         ensures part { (ds : List ℕ) (es : List Effect) → LiveIs ds es self.old
             → TakenInPart ds now channel (asked (past_of es)) es self.new }
-        ensures clients { SameClients self.old self.new }
+        ensures rest { SameRest self.old self.new }
         ensures windows { self.new.windows ≡ self.old.windows }
-        ensures named { self.new.named ≡ self.old.named }
-        ensures clock { self.new.clock ≡ self.old.clock }
     {
         if !is_requested(&self.requested, channel) {
             return Ok(());
@@ -96,11 +90,9 @@ impl Live {
             → OnOk result (Settles ds (next_left now channel) es self.new) }
         ensures goes { (ds : List ℕ) (es : List Effect) → LiveIs ds es self.old → IsHeld channel self.old.seats
             → Reaches ds (next_left now channel) es self.new }
-        ensures clients { SameClients self.old self.new }
+        ensures rest { SameRest self.old self.new }
         ensures windows { self.new.windows ≡ self.old.windows }
         ensures requests { self.new.requested ≡ self.old.requested }
-        ensures named { self.new.named ≡ self.old.named }
-        ensures clock { self.new.clock ≡ self.old.clock }
     {
         for _ in 0..u64::MAX {
             let Some(call) = next_left(&self.dispatcher, now, channel) else {

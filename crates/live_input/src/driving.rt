@@ -8,7 +8,7 @@ ghost use Rattle.dispatch_history.specs.Reply.{reply_to};
 ghost use Rattle.dispatcher.specs.Access.{any_waits};
 ghost use Rattle.dispatcher.specs.Memory.{MayCount};
 ghost use Rattle.window_snapshot.specs.Mask.{mask_has};
-ghost use Rattle.live_input.specs.Answers.{SameClients, SameSeats};
+ghost use Rattle.live_input.specs.Answers.{SameClients, SameRest, SameSeats};
 ghost use Rattle.live_input.specs.Giving.{HandedInPart, notified};
 ghost use Rattle.live_input.specs.Room.{MayCountMore, PumpsOver};
 ghost use Rattle.live_input.specs.Settling.{Reaches, Settles, due_of, next_waiting, next_due};
@@ -34,9 +34,7 @@ impl Live {
         ensures reserved { (ds : List ℕ) (es : List Effect) → LiveIs ds es self.old
             → length self.old.dispatcher.queue.waiting ≤ self.old.dispatcher.queue.pumps
             → MayCountMore (length self.old.dispatcher.queue.waiting) es → IsOk result }
-        ensures clients { SameClients self.old self.new }
-        ensures named { self.new.named ≡ self.old.named }
-        ensures clock { self.new.clock ≡ self.old.clock }
+        ensures rest { SameRest self.old self.new }
     {
         for made in 0..u64::MAX {
             let Some(call) = next_waiting(&self.dispatcher, now) else {
@@ -47,8 +45,8 @@ impl Live {
         Err(AllocError)
     }
 
-    /// The first moment at which something is due: a client that leaves a message unfinished for too long, or the
-    /// repeat of a held key. While something that devices delivered waits for memory, it is the clock.
+    /// The first time at which something is due: a client that leaves a message unfinished for too long, or the repeat
+    /// of a held key. While something that devices gave waits for memory, it is the clock.
     pub fn due(&self) -> Option<u64>
         ensures { (ds : List ℕ) (es : List Effect) → LiveIs ds es self.now → result ≡ due_of es self.now }
     {
@@ -59,9 +57,9 @@ impl Live {
         }
     }
 
-    /// Runs everything that is due up to now, one call after another, each at its moment, after handing in what
-    /// devices delivered and still waits for that. Returns the mask of the channels whose clients were reported
-    /// unresponsive, by this call and by those before it that ran out of memory, and are still open.
+    /// Hands in what still waits to be handed in, and then runs everything that is due up to now, one call after
+    /// another, each at its time. Returns the mask of the channels whose clients were reported unresponsive, by this
+    /// call or by earlier ones that ran out of memory, and are still open.
     pub fn advance(&mut self, now: Moment) -> Result<u64, AllocError>
         ensures ok { (ds : List ℕ) (es : List Effect) → LiveIs ds es self.old
             → IfOk result (λ mask. Advanced ds (latest now self.old)
@@ -110,7 +108,7 @@ impl Live {
         Err(AllocError)
     }
 
-    /// Makes one call, and records the channels that it reports unresponsive.
+    /// Makes one call, and keeps the channels that it reports unresponsive.
     fn note(&mut self, call: &Call) -> Result<(), AllocError>
         ensures after { (ds : List ℕ) (es : List Effect) → LiveIs ds es self.old → is_plain call.now ≡ true
             → IsOfHeld self.old.seats call.now → OnOk result (LiveIs ds (answered ds call.now es) self.new) }
@@ -131,7 +129,7 @@ impl Live {
     }
 }
 
-/// Whether something waits for memory: args that are accepted, or some that must still be handed in.
+/// Whether something waits for memory: accepted args, or args that must still be handed in.
 #[tactic(auto, using(crate::proofs::Handing::some_wait))]
 fn waits(is_waiting: bool, pending: &[Args]) -> bool
     ensures { result ≡ (is_waiting || any_waits pending.now) }

@@ -1,5 +1,5 @@
-//! What devices deliver: events, and args that are ready.
-ghost use Rattle.std.specs.Prelude.{◌≡◌, ◌==◌, ◌&&◌, ◌+◌, ◌≤◌, ℕ, true, false, List, [], ◌∷◌, drop, length, slice_get, Err, IfOk, IsOk, OnOk, OnErr};
+//! What devices give: events, and ready-made args.
+ghost use Rattle.std.specs.Prelude.{◌≡◌, ◌==◌, ◌&&◌, ◌+◌, ◌≤◌, ℕ, true, false, List, [], ◌∷◌, drop, length, slice_get, Err, IfOk, IsOk, OnOk, OnErr, ◌*◌};
 ghost use Rattle.dispatch_calls.specs.declared.call.Call.TheVariants.{Notify};
 ghost use Rattle.dispatch_history.specs.Effect.{Effect};
 ghost use Rattle.dispatch_history.specs.Legal.{answered};
@@ -11,9 +11,9 @@ ghost use Rattle.dispatcher.specs.Outcomes.{reply_of};
 ghost use Rattle.raw_events.specs.declared.event.RawEvent.{RawEvent as Event};
 ghost use Rattle.device_reader.specs.Cooked.{DevicePlan};
 ghost use Rattle.device_table.specs.Table.{StandsAt, is_there, reader_of};
-ghost use Rattle.live_input.specs.Answers.{SameClients, SameSeats, is_taken};
+ghost use Rattle.live_input.specs.Answers.{SameRest, SameSeats, is_taken};
 ghost use Rattle.live_input.specs.Giving.{Delivers, Gives, GivesEvent, HandedInPart, IsFed, all_taken, notified};
-ghost use Rattle.live_input.specs.Room.{GivesAtOnce, GoesAtOnce, HandsOver, HasRoom, MayCountMore};
+ghost use Rattle.live_input.specs.Room.{GivesAtOnce, GoesAtOnce, HandsOver, HasRoom, MayCountMore, most_args};
 ghost use Rattle.live_input.specs.Settling.{waits};
 ghost use Rattle.live_input.specs.Standing.{LiveIs};
 ghost use Rattle.live_input.specs.State.{latest};
@@ -32,8 +32,8 @@ impl Live {
     ///
     /// After a SYN_DROPPED the device is reset, and everything that was down on it is cancelled. The caller must then
     /// hand in the device's current state as events too: each slot with a finger, with its tracking id and position,
-    /// and a SYN_REPORT. libevdev provides it (`libevdev_get_slot_value`) once its sync is done; the events of the
-    /// sync only contain what has changed. The same applies to a device that is plugged in while fingers are down.
+    /// and a SYN_REPORT. libevdev has it (`libevdev_get_slot_value`) once its sync is done; the events of the sync
+    /// contain only what changed. The same holds for a device that is plugged in while fingers are down.
     pub fn event(
         &mut self,
         now: Moment,
@@ -76,7 +76,7 @@ impl Live {
         }
     }
 
-    /// Dispatches motions and keys that are ready, of a plugged-in device, to the windows.
+    /// Dispatches ready-made motions and keys of a plugged-in device to the windows.
     pub fn args(&mut self, now: Moment, args: Args) -> Result<(), ArgsRefused>
         ensures none { is_there self.old.devices (device_of args) ≡ false
             → (result ≡ Err ArgsRefused.NoDevice) × (self.new ≡ self.old) }
@@ -101,7 +101,7 @@ impl Live {
         }
     }
 
-    /// Hands in everything that still waits for that, and dispatches it.
+    /// Hands in everything that still waits to be handed in, and dispatches it.
     pub(crate) fn deliver(&mut self, now: Moment) -> Result<(), ArgsRefused>
         ensures after { (ds : List ℕ) (es : List Effect) → LiveIs ds es self.old
             → Delivers ds now es self.old.pending result self.new }
@@ -128,7 +128,7 @@ impl Live {
         }
     }
 
-    /// Hands in what still waits for that, one after another. Returns whether all of it was accepted.
+    /// Hands in what still waits to be handed in, one after another. Returns whether all of it was accepted.
     #[tactic(auto, using(crate::proofs::Roomy::hands_over_first))]
     pub(crate) fn hand_in(&mut self, now: Moment) -> Result<bool, AllocError>
         ensures after { (ds : List ℕ) (es : List Effect) → LiveIs ds es self.old
@@ -159,15 +159,13 @@ impl Live {
         Err(AllocError)
     }
 
-    /// Queues args behind those that wait, if they fit earlier ones. Returns whether they do.
+    /// Queues args behind those that wait, if they fit the earlier ones. Returns whether they do.
     fn notify(&mut self, now: Moment, args: Args) -> Result<bool, AllocError>
         ensures after { (ds : List ℕ) (es : List Effect) → LiveIs ds es self.old
             → OnOk result (LiveIs ds (answered ds (Notify now args) es) self.new) }
         ensures taken { (ds : List ℕ) (es : List Effect) → LiveIs ds es self.old
             → IfOk result (λ fits. fits ≡ is_taken (reply_to es (Notify now args))) }
-        ensures clients { SameClients self.old self.new }
-        ensures named { self.new.named ≡ self.old.named }
-        ensures clock { self.new.clock ≡ self.old.clock }
+        ensures rest { SameRest self.old self.new }
         ensures err { OnErr result (self.new ≡ self.old) }
         ensures reserved { AnswersReserved (Notify now args) self.old.dispatcher result }
         ensures pumps { OnOk result (self.new.dispatcher.queue.pumps ≡ self.old.dispatcher.queue.pumps) }
@@ -176,9 +174,25 @@ impl Live {
         let outcome = self.dispatcher.notify(now, &args)?;
         Ok(is_taken(outcome))
     }
+
+    /// Makes room for the next `events` events, of any devices: none of them waits for memory, if nothing waits now and
+    /// no other call comes between. If memory runs out, nothing changes.
+    ///
+    /// An event gives at most 33 args, and for each of them there is room for 131 messages in every channel that was
+    /// opened.
+    pub fn reserve(&mut self, events: u16) -> Result<(), AllocError>
+        ensures room { OnOk result (HasRoom (events * most_args) self.new) }
+        ensures rest { self.new ≡ record self.old { dispatcher = self.new.dispatcher } }
+        ensures stands { (ds : List ℕ) (es : List Effect) → LiveIs ds es self.old → LiveIs ds es self.new }
+        ensures err { OnErr result (self.new ≡ self.old) }
+        ensures again { HasRoom (events * most_args) self.old → IsOk result }
+    {
+        self.dispatcher.reserve(events as u32 * 33)?;
+        Ok(())
+    }
 }
 
-/// Whether all earlier args fitted, and the next ones do.
+/// Whether all earlier args fitted and the next ones do.
 fn still_fits(fits: bool, is_taken: bool) -> bool
     ensures { result ≡ (fits && is_taken) }
 {
@@ -205,7 +219,7 @@ fn first_of(args: &[Args]) -> Option<Args>
     args.first().copied()
 }
 
-/// Some args without the first.
+/// The args after the first.
 #[tactic(auto, using(crate::proofs::Handing::drop_none, crate::proofs::Handing::remove_first))]
 fn drop_first(args: &mut Vec<Args>)
     ensures { args.new.items ≡ drop 1 args.old.items }

@@ -6,15 +6,15 @@ pub fn silence()
     ensures { SilenceLaw }
 {}
 
-/// Everything that was sent to a channel whose window is not shown has ended. So what is sent on it later is a stream
-/// by itself, from the empty state.
+/// Everything that was sent to a channel whose window is not shown has ended. So what it is sent later is a stream by
+/// itself, from the empty state.
 pub fn endings()
     ensures unsent { UnsentLaw }
     ensures alone { AloneLaw }
 {}
 
-/// What each client is sent: from its opening on, a stream by itself, numbered from 1, which tells it what its window
-/// holds, and which it receives in order. After it is closed nothing follows.
+/// What each client is sent from its opening on is a stream by itself, numbered from 1. The client receives it in
+/// order, and knows from it what its window holds. A channel without an open client is sent nothing.
 pub fn clients()
     ensures own { OwnLaw }
     ensures numbers { OwnNumbersLaw }
@@ -22,23 +22,23 @@ pub fn clients()
     ensures closed { ClosedLaw }
 {}
 
-/// What is kept: the messages of a channel that were not received yet, nothing of a channel on which no client is
-/// open, and no ANR.
+/// What is kept: the messages of a channel that were not received yet, nothing of a channel without an open client, and
+/// no ANR.
 pub fn memory()
     ensures messages { KeptLaw }
     ensures anrs { AnrsLaw }
     ensures vacant { VacantLaw }
 {}
 
-/// What holds when nothing is left to do: after `advance` what is due is later, and after `close` all messages of the
-/// channel are received and finished.
+/// What holds when nothing is left to do: after `advance` nothing is due at or before its time, and after `close` all
+/// messages of the channel are received and finished.
 pub fn settling()
     ensures later { LaterLaw }
     ensures done { DoneLaw }
 {}
 
-/// A device and the history agree on what is down on it, as long as its args come from its events alone. So these
-/// always fit.
+/// A device and the history agree on what is down on the device, as long as its args come from its events alone. So
+/// these args always fit.
 pub fn readers()
     ensures first { FedFirstLaw }
     ensures fed { FedLaw }

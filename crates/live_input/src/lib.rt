@@ -9,9 +9,9 @@
 //! windows [its window]
 //! args Motion(1 Down 0@540,1200)
 //! next, of the first client                1 1000 Motion(1 Down 0@540,1200)
-//! close, of the first client               it is sent a CANCEL, which it does not get any more
+//! close, of the first client               it is sent a CANCEL, which it no longer receives
 //! open                                     channel 1, generation 2
-//! next, of the second client               nothing: the finger was never its own
+//! next, of the second client               nothing: it never had the finger
 //! finish 1, of the first client            NotOpen
 //! ```
 //!
@@ -20,8 +20,8 @@
 //! service then stands for the history extended by them (specs/Opening, Closing, Settling and Showing). So everything
 //! that the history's definitions say about what windows are sent holds here.
 //!
-//! A channel can be used again because one whose window is not shown is sent nothing, and what it was sent leaves
-//! nothing known (`laws`).
+//! A channel can be used again for two reasons (`laws`): a channel whose window is not shown is sent nothing, and what
+//! it was sent before leaves nothing down and no focus.
 #![tactic(auto)]
 
 mod asking;
@@ -36,9 +36,9 @@ mod messages;
 mod plugging;
 mod refused;
 mod releasing;
-mod room;
 mod settling;
 mod showing;
+pub mod through;
 mod windows;
 
 pub use client::Client;

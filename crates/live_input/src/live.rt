@@ -5,7 +5,7 @@ ghost use Rattle.dispatch_history.specs.Legal.{answered};
 ghost use Rattle.dispatch_history.specs.Reply.{reply_to};
 ghost use Rattle.dispatcher.specs.Answered.{AnswersCalm, AnswersPumped};
 ghost use Rattle.dispatcher.specs.Queueing.{args_in, is_input};
-ghost use Rattle.live_input.specs.Answers.{SameClients};
+ghost use Rattle.live_input.specs.Answers.{SameRest};
 ghost use Rattle.live_input.specs.Seats.{vacant};
 ghost use Rattle.live_input.specs.Standing.{IsOfHeld, LiveIs, is_plain};
 ghost use Rattle.live_input.specs.State.{latest};
@@ -31,18 +31,18 @@ pub struct Live {
     /// The latest moment that was handed in.
     pub(crate) clock: Moment,
     pub(crate) dispatcher: Dispatcher,
-    /// Starting with channel 1.
+    /// The seats, from channel 1 on.
     pub(crate) seats: [Seat; 64],
     /// How many clients were opened so far.
     pub(crate) opened: u64,
     pub(crate) windows: Snapshot,
-    /// For which channel the focus of each display was last requested, and the display of the last request.
+    /// The channel for which the focus of each display was last requested, and the display of the last request.
     pub(crate) requested: [Option<u32>; 4],
     pub(crate) asked: DisplayId,
     /// The channels whose clients were reported unresponsive by an `advance` that ran out of memory.
     pub(crate) named: u64,
     pub(crate) devices: DeviceTable,
-    /// What devices delivered that must still be handed in, oldest first. It is empty unless memory ran out.
+    /// What devices gave that must still be handed in, oldest first. It is empty unless memory ran out.
     pub(crate) pending: Vec<Args>,
 }
 
@@ -96,15 +96,7 @@ impl Live {
         })
     }
 
-    /// The clock: the latest moment that was handed in. Each call is made at it, even if an earlier moment is handed in
-    /// later. Calls that are refused and change nothing leave it.
-    pub fn clock(&self) -> Moment
-        ensures { result ≡ self.now.clock }
-    {
-        self.clock
-    }
-
-    /// Raises the clock to a moment that is later. Returns the clock.
+    /// Raises the clock to a time, if that is later. Returns the clock.
     pub(crate) fn raise(&mut self, now: Moment) -> Moment
         ensures latest { result ≡ latest now self.old }
         ensures rest { self.new ≡ record self.old { clock = latest now self.old } }
@@ -143,11 +135,9 @@ impl Live {
     pub(crate) fn make(&mut self, call: &Call) -> Result<(), AllocError>
         ensures after { (ds : List ℕ) (es : List Effect) → LiveIs ds es self.old → is_plain call.now ≡ true
             → IsOfHeld self.old.seats call.now → OnOk result (LiveIs ds (answered ds call.now es) self.new) }
-        ensures clients { SameClients self.old self.new }
+        ensures rest { SameRest self.old self.new }
         ensures windows { self.new.windows ≡ self.old.windows }
         ensures requests { self.new.requested ≡ self.old.requested }
-        ensures named { self.new.named ≡ self.old.named }
-        ensures clock { self.new.clock ≡ self.old.clock }
         ensures err { OnErr result (self.new ≡ self.old) }
         ensures pumped { AnswersPumped call.now self.old.dispatcher result }
         ensures pumps { is_input call.now ≡ true
@@ -162,7 +152,7 @@ impl Live {
     }
 }
 
-/// Seats with no client open on any channel.
+/// Seats without clients.
 fn vacant() -> [Seat; 64]
     ensures { result ≡ replicate 64 vacant }
 {

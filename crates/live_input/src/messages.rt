@@ -25,7 +25,7 @@ use std::alloc::AllocError;
 use window_snapshot::mask_with;
 
 impl Live {
-    /// Receives the next message of a client, which the service releases: None if there is none, or if the client is
+    /// Receives the next message of a client, which the service releases. None if there is none, or if the client is
     /// not open. Its number does not count the messages that its channel had before the client. If memory runs out,
     /// nothing changes; that happens only if the calls can no longer be counted in 64 bits.
     pub fn next(&mut self, client: Client) -> Result<Option<Message>, AllocError>
@@ -169,7 +169,7 @@ fn is_done(reply: &Reply) -> bool
     matches!(reply, Reply::Done)
 }
 
-/// Whether the current windows have no spy of the channel.
+/// Whether the shown windows have no spy of the channel.
 fn is_no_spy(reply: &Reply) -> bool
     ensures { result ≡ is_no_spy reply.now }
 {

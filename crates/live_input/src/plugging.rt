@@ -17,10 +17,10 @@ use input_types::{Args, DeviceId, DisplayId, Moment};
 use key_layout::Layout;
 
 impl Live {
-    /// Plugs in a touch device of a display, with 1 to 16 slots; `cook` turns its positions into pixels. It gets the
+    /// Plugs in a touch device on a display, with 1 to 16 slots; `cook` turns its positions into pixels. It gets the
     /// lowest free number of its display.
     ///
-    /// The caller hands in fingers that are already down on it as events, as after a SYN_DROPPED.
+    /// If fingers are already down on it, hand them in as events, as after a SYN_DROPPED.
     pub fn add_touch(
         &mut self,
         display: DisplayId,
@@ -46,8 +46,8 @@ impl Live {
         Ok(device)
     }
 
-    /// Plugs in a device with keys, whose layout says which key code each scan code has. It gets the lowest free
-    /// number of its display; its keys go where all keys go.
+    /// Plugs in a device with keys on a display; its layout gives the key code of each scan code. It gets the lowest
+    /// free number of its display, and its keys go where all keys go.
     pub fn add_keys(&mut self, display: DisplayId, layout: Layout) -> Result<DeviceId, AddRefused>
         ensures added { Adds (λ d. Keys (record { device = d; layout = layout })) display result self.old self.new }
         ensures rest { self.new ≡ record self.old { devices = self.new.devices } }
@@ -89,7 +89,7 @@ impl Live {
     }
 }
 
-/// Whether a touch device can have so many slots.
+/// Whether a touch device can have this many slots.
 fn is_slots(slots: u8) -> bool
     ensures { result ≡ is_slots slots }
 {

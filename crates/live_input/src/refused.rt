@@ -73,17 +73,17 @@ pub enum AddRefused {
     BadSlots,
 }
 
-/// Why what a device delivers is not dispatched.
+/// Why what a device gives is not dispatched.
 #[derive(Clone, Copy, Debug, PartialEq, Eq)]
 pub enum ArgsRefused {
     /// The device is not plugged in. Nothing changed.
     NoDevice,
-    /// Some of it does not fit what its device did before, and was not accepted. The rest was dispatched. A device's
+    /// A part of it does not fit what its device did before, and was not accepted. The rest was dispatched. A device's
     /// own events always fit unless args were handed in for it too.
     Inconsistent,
     /// Out of memory; nothing was accepted. Nothing changed.
     Memory,
-    /// Out of memory after it was accepted: it waits in order, and the next call that has the memory and delivers
-    /// something or advances dispatches it.
+    /// Out of memory after it was accepted. It waits in its order, and the next call that has the memory and hands
+    /// something in or advances dispatches it.
     Waits,
 }

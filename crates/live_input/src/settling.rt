@@ -19,8 +19,8 @@ pub(crate) fn next_waiting(dispatcher: &Dispatcher, now: Moment) -> Option<Call>
     }
 }
 
-/// What is done next of everything due up to now: waiting args are dispatched, or else the earlier of the first
-/// timeout and the next repeat.
+/// The next of everything that is due up to now: the first waiting args are dispatched; if none wait, the earlier of
+/// the first timeout and the next repeat.
 pub(crate) fn next_due(dispatcher: &Dispatcher, now: Moment) -> Option<Call>
     ensures { (es : List Effect) → IsAfter es dispatcher.now → result ≡ next_due now es }
 {
@@ -52,7 +52,7 @@ pub(crate) fn sooner(first: Option<u64>, second: Option<u64>) -> Option<u64>
     }
 }
 
-/// The earlier of a timeout and a repeat, if that is not later than now; at equal moments the timeout.
+/// The earlier of a timeout and a repeat, if that is not later than now; the timeout if both come at one time.
 fn sooner_call(now: Moment, timeout: Option<u64>, repeat: Option<u64>) -> Option<Call>
     ensures { result ≡ sooner_call now timeout repeat }
 {
@@ -105,7 +105,7 @@ fn repeat_by(now: Moment, repeat: Option<u64>) -> Option<Call>
     }
 }
 
-/// The moment at so many microseconds, which are not later than now.
+/// The time with this many microseconds, which is not later than now.
 fn moment_by(now: Moment, us: u64) -> Moment
     requires { us ≤ now }
     ensures { result ≡ us }
@@ -115,8 +115,8 @@ fn moment_by(now: Moment, us: u64) -> Moment
     Moment::new(us).unwrap()
 }
 
-/// What is left to do on a channel of which so many of so many messages were received, and whose oldest published and
-/// unfinished message has this number.
+/// What is left to do on a channel, given how many messages it has, how many were received, and the number of the
+/// oldest published and unfinished one.
 pub(crate) fn left_call(
     now: Moment,
     channel: u32,

@@ -3,29 +3,56 @@ ghost use Rattle.std.specs.Prelude.{◌≡◌, ℕ, ◌-◌, true, false, List, 
 ghost use Rattle.dispatch_calls.specs.declared.call.Call.TheVariants.{Windows, FocusOn};
 ghost use Rattle.dispatch_history.specs.Effect.{Effect};
 ghost use Rattle.dispatch_history.specs.Legal.{answered};
-ghost use Rattle.live_input.specs.Answers.{SameClients};
+ghost use Rattle.live_input.specs.Answers.{SameClients, SameRest};
 ghost use Rattle.live_input.specs.Showing.{FocusGoes, may_ask, channel_of};
 ghost use Rattle.live_input.specs.Standing.{AreOfHeld, IsOfSome, LiveIs};
 ghost use Rattle.live_input.specs.State.{latest};
+ghost use Rattle.live_input.specs.Seats.{is_open};
+ghost use Rattle.live_input.specs.Windows.{first_stale, WindowsGo};
 
 use crate::client::{Client, Seat, is_open};
 use crate::live::Live;
-use crate::refused::FocusRefused;
+use crate::refused::{FocusRefused, WindowsRefused};
+use crate::windows::{ClientWindow, first_stale, snapshot_of};
 use input_types::{DisplayId, Moment};
 use std::alloc::AllocError;
-use window_snapshot::Snapshot;
+use window_snapshot::{Snapshot, SnapshotError};
 
 impl Live {
+    /// Replaces the windows by these, front to back. A window whose client is not open is refused before any other
+    /// reason.
+    pub fn windows(&mut self, now: Moment, windows: Vec<ClientWindow>) -> Result<(), WindowsRefused>
+        ensures after { (ds : List ℕ) (es : List Effect) → LiveIs ds es self.old
+            → WindowsGo ds (latest now self.old) windows.items es result self.old self.new }
+        ensures clients { SameClients self.old self.new }
+        ensures named { self.new.named ≡ self.old.named }
+    {
+        if let Some(place) = first_stale(&self.seats, &windows) {
+            return Err(WindowsRefused::NotOpen { place });
+        }
+        let now = now.later(self.clock);
+        match snapshot_of(self.alloc, windows) {
+            Ok(snapshot) => match self.show(now, snapshot) {
+                Ok(()) => {
+                    self.clock = now;
+                    Ok(())
+                }
+                Err(_) => Err(WindowsRefused::Memory),
+            },
+            Err(SnapshotError::TooMany) => Err(WindowsRefused::TooMany),
+            Err(SnapshotError::Twice { channel }) => Err(WindowsRefused::Twice { channel }),
+            Err(SnapshotError::Memory) => Err(WindowsRefused::Memory),
+        }
+    }
+
     /// Replaces the windows by these, all of open clients. If memory runs out, nothing changes.
     pub(crate) fn show(&mut self, now: Moment, snapshot: Snapshot) -> Result<(), AllocError>
         ensures after { (ds : List ℕ) (es : List Effect) → LiveIs ds es self.old
             → AreOfHeld snapshot self.old.seats
             → OnOk result (LiveIs ds (answered ds (Windows now snapshot) es) self.new) }
         ensures windows { OnOk result (self.new.windows ≡ snapshot) }
-        ensures clients { SameClients self.old self.new }
+        ensures rest { SameRest self.old self.new }
         ensures requests { (self.new.requested ≡ self.old.requested) × (self.new.asked ≡ self.old.asked) }
-        ensures named { self.new.named ≡ self.old.named }
-        ensures clock { self.new.clock ≡ self.old.clock }
         ensures err { OnErr result (self.new ≡ self.old) }
     {
         match self.dispatcher.show(now, &snapshot) {
@@ -48,10 +75,8 @@ impl Live {
             → OnOk result (LiveIs ds (answered ds (FocusOn now display channel) es) self.new) }
         ensures requests { OnOk result
             ((self.new.requested ≡ slice_set self.old.requested display channel) × (self.new.asked ≡ display)) }
-        ensures clients { SameClients self.old self.new }
+        ensures rest { SameRest self.old self.new }
         ensures windows { self.new.windows ≡ self.old.windows }
-        ensures named { self.new.named ≡ self.old.named }
-        ensures clock { self.new.clock ≡ self.old.clock }
         ensures err { OnErr result (self.new ≡ self.old) }
     {
         match self.dispatcher.request(now, display, channel) {
@@ -92,7 +117,7 @@ impl Live {
     }
 }
 
-/// Whether it is no client, or one that is open.
+/// Whether this is no client, or an open one.
 fn may_ask(seats: &[Seat; 64], client: Option<Client>) -> bool
     ensures { result ≡ may_ask seats.now client }
 {

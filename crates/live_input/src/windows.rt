@@ -1,16 +1,10 @@
 //! The windows of clients.
-ghost use Rattle.std.specs.Prelude.{◌≡◌, ℕ, List, Option, map, IfOk};
-ghost use Rattle.dispatch_history.specs.Effect.{Effect};
-ghost use Rattle.live_input.specs.Answers.{SameClients};
+ghost use Rattle.std.specs.Prelude.{◌≡◌, Option, map, IfOk};
 ghost use Rattle.live_input.specs.Seats.{is_open};
-ghost use Rattle.live_input.specs.Standing.{LiveIs};
-ghost use Rattle.live_input.specs.State.{latest};
-ghost use Rattle.live_input.specs.Windows.{first_stale, window_of, IsSnapshotOf, WindowsGo};
+ghost use Rattle.live_input.specs.Windows.{first_stale, window_of, IsSnapshotOf};
 
 use crate::client::{Client, Seat, is_open};
-use crate::live::Live;
-use crate::refused::WindowsRefused;
-use input_types::{DisplayId, Moment};
+use input_types::DisplayId;
 use std::alloc::{AllocError, Global};
 use touch_region::{Rect, Region};
 use window_snapshot::{Occlusion, Percent, Snapshot, SnapshotError, Window, WindowFlags};
@@ -25,9 +19,9 @@ pub struct ClientWindow {
     pub frame: Rect,
     /// Where the window can be touched, in display pixels.
     pub region: Region,
-    /// The flags that it asks of the dispatcher.
+    /// Its flags.
     pub flags: WindowFlags,
-    /// Whose it is, as any number. Windows of one owner trust each other.
+    /// Its owner, as any number. Windows of one owner trust each other.
     pub owner: u32,
     /// How much it hides of what is behind it.
     pub opacity: Percent,
@@ -36,7 +30,7 @@ pub struct ClientWindow {
 }
 
 impl ClientWindow {
-    /// The same window by its channel.
+    /// The same window, with its channel in place of its client.
     fn into_window(self) -> Window
         ensures { result ≡ window_of self }
     {
@@ -63,36 +57,8 @@ impl ClientWindow {
     }
 }
 
-impl Live {
-    /// Replaces the windows by these, front to back. A window whose client is not open is refused before any other
-    /// reason.
-    pub fn windows(&mut self, now: Moment, windows: Vec<ClientWindow>) -> Result<(), WindowsRefused>
-        ensures after { (ds : List ℕ) (es : List Effect) → LiveIs ds es self.old
-            → WindowsGo ds (latest now self.old) windows.items es result self.old self.new }
-        ensures clients { SameClients self.old self.new }
-        ensures named { self.new.named ≡ self.old.named }
-    {
-        if let Some(place) = first_stale(&self.seats, &windows) {
-            return Err(WindowsRefused::NotOpen { place });
-        }
-        let now = now.later(self.clock);
-        match snapshot_of(self.alloc, windows) {
-            Ok(snapshot) => match self.show(now, snapshot) {
-                Ok(()) => {
-                    self.clock = now;
-                    Ok(())
-                }
-                Err(_) => Err(WindowsRefused::Memory),
-            },
-            Err(SnapshotError::TooMany) => Err(WindowsRefused::TooMany),
-            Err(SnapshotError::Twice { channel }) => Err(WindowsRefused::Twice { channel }),
-            Err(SnapshotError::Memory) => Err(WindowsRefused::Memory),
-        }
-    }
-}
-
 /// The index of the first window whose client is not open.
-fn first_stale(seats: &[Seat; 64], windows: &[ClientWindow]) -> Option<usize>
+pub(crate) fn first_stale(seats: &[Seat; 64], windows: &[ClientWindow]) -> Option<usize>
     ensures { result ≡ first_stale seats.now windows.now }
 {
     windows
@@ -101,7 +67,10 @@ fn first_stale(seats: &[Seat; 64], windows: &[ClientWindow]) -> Option<usize>
 }
 
 /// The snapshot of the windows of clients.
-fn snapshot_of(alloc: Global, windows: Vec<ClientWindow>) -> Result<Snapshot, SnapshotError>
+pub(crate) fn snapshot_of(
+    alloc: Global,
+    windows: Vec<ClientWindow>,
+) -> Result<Snapshot, SnapshotError>
     ensures { IsSnapshotOf (map window_of windows.items) result }
 {
     match windows_of(alloc, windows) {

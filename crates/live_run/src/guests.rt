@@ -1,35 +1,36 @@
-//! Clients that come and go, beside one that stays and never finishes a message.
+//! Clients that come and go, and one that stays and never finishes a message.
 use crate::service::{Service, window};
 use input_types::Moment;
 use live_input::Client;
 use std::alloc::Global;
 use touch_region::Rect;
 
-/// How long from one packet to the next, in microseconds.
+/// The time between two packets, in microseconds.
 const PERIOD: u64 = 8_000;
 
-/// How often the finger of a guest moves. With the five events of its down and the two of its up a visit has 10,000.
+/// How often the finger of a guest moves. With the five events of its down and the two of its up, a visit has 10,000
+/// events.
 const MOVES: u64 = 3_331;
 
-/// A service on which one client stays. It has the left half of the display, and a finger is held on it; the guest of
-/// the moment has the right half.
+/// A service on which one client stays. It has the left half of the display, with a finger held on it. The current
+/// guest has the right half.
 #[derive(Drop)]
 pub(crate) struct Guests {
     service: Service,
     idle: Client,
-    /// How many packets there were.
+    /// How many packets there were so far.
     packets: u64,
-    /// How many guests came.
+    /// How many guests came so far.
     pub came: u64,
-    /// How many messages guests took and finished.
+    /// How many messages guests received and finished.
     pub finished: u64,
-    /// How many messages the client that stays took.
+    /// How many messages the client that stays received.
     pub kept: u64,
     /// How often a client was reported unresponsive.
     pub named: u64,
 }
 
-/// The display from a left to a right edge.
+/// The part of the display between a left and a right edge.
 fn part(left: i32, right: i32) -> Rect {
     Rect {
         left,
@@ -53,7 +54,7 @@ fn show(service: &mut Service, now: Moment, idle: Client, guest: Option<Client>)
     service.live.windows(now, windows).ok()
 }
 
-/// A client is opened that has the left half of the display, and a finger goes down on it.
+/// Opens a client with the left half of the display, and puts a finger on it.
 fn settle(service: &mut Service) -> Option<Client> {
     let now = Moment::zero();
     let idle = service.live.open().ok()?;
@@ -63,7 +64,7 @@ fn settle(service: &mut Service) -> Option<Client> {
     Some(idle)
 }
 
-/// A service on which this client stays.
+/// The guests of a service on which this client stays.
 fn held(service: Service, idle: Client) -> Guests {
     Guests {
         service,
@@ -76,7 +77,7 @@ fn held(service: Service, idle: Client) -> Guests {
     }
 }
 
-/// A service on which a client stays, if all calls for it are taken.
+/// The guests of a service on which a client stays, if no call for it was refused.
 fn settled(mut service: Service) -> Option<Guests> {
     match settle(&mut service) {
         Some(idle) => Some(held(service, idle)),
@@ -85,7 +86,7 @@ fn settled(mut service: Service) -> Option<Guests> {
 }
 
 impl Guests {
-    /// A service with the client that stays, on whose window a finger goes down.
+    /// The guests of a new service: a client stays on it, with a finger down on its window.
     pub(crate) fn new(alloc: Global) -> Option<Guests> {
         match Service::new(alloc) {
             Some(service) => settled(service),
@@ -98,7 +99,7 @@ impl Guests {
         self.service.events
     }
 
-    /// The clock is at the next packet, and what is due up to then is done.
+    /// Advances the clock to the next packet, and runs what is due up to then.
     fn advance(&mut self) -> Option<Moment> {
         self.packets = self.packets.saturating_add(1);
         let now = Moment::new(self.packets.saturating_mul(PERIOD))?;
@@ -107,7 +108,7 @@ impl Guests {
         Some(now)
     }
 
-    /// Both clients take what they were sent, and the guest is done with it.
+    /// Both clients receive what they were sent, and the guest finishes it.
     fn take_all(&mut self, now: Moment, guest: Client) -> Option<()> {
         let finished = self.service.take_all(now, guest, true)?;
         self.finished = self.finished.saturating_add(finished);
@@ -116,7 +117,7 @@ impl Guests {
         Some(())
     }
 
-    /// A guest comes, and a finger goes down on its window.
+    /// Opens a guest, and puts a finger on its window.
     fn come(&mut self) -> Option<Client> {
         let now = self.advance()?;
         let guest = self.service.live.open().ok()?;
@@ -129,7 +130,7 @@ impl Guests {
         Some(guest)
     }
 
-    /// The finger of the guest moves.
+    /// Moves the finger of the guest.
     fn step(&mut self, guest: Client) -> Option<()> {
         let now = self.advance()?;
         let shift = (self.packets % 400) as i32;
@@ -138,7 +139,7 @@ impl Guests {
         self.take_all(now, guest)
     }
 
-    /// The guest goes, and then the finger that was on its window.
+    /// Closes the guest, and then lifts the finger that was on its window.
     fn go(&mut self, guest: Client) -> Option<()> {
         let now = self.advance()?;
         self.service.live.close(now, guest).ok()?;
@@ -147,7 +148,7 @@ impl Guests {
         self.take_all(now, guest)
     }
 
-    /// A guest comes, with 10,000 events, and goes.
+    /// One visit: a guest comes, gets 10,000 events, and goes.
     fn visit(&mut self) -> Option<()> {
         let guest = self.come()?;
         for _ in 0..MOVES {
@@ -156,7 +157,7 @@ impl Guests {
         self.go(guest)
     }
 
-    /// So many guests come and go, one after another.
+    /// This many guests come and go, one after another.
     pub(crate) fn visits(&mut self, count: u64) -> Option<()> {
         for _ in 0..count {
             self.visit()?;

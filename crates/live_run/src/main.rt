@@ -1,6 +1,6 @@
-//! A live service for as long as its input says.
+//! Runs a live service for as long as its input says.
 //!
-//! Each line of standard input is a run, and has a line of output when it is done:
+//! Each line of standard input is a run, and prints a line when it is done:
 //!
 //! ```text
 //! visits 2        two clients come and go, one after another, with 10,000 events each
@@ -8,11 +8,11 @@
 //! ten 1000        1,000 rounds of ten fingers over five windows, two on each
 //! ```
 //!
-//! All visits are to one service, on which one client stays and never finishes a message. The rounds are to services of
-//! their own. A round is a packet of the panel, the message that it is for each window, and the finish of that.
+//! All visits are to one service, on which one client stays and never finishes a message. Each run of rounds has a
+//! service of its own. In a round the panel gives a packet, and each window receives its message and finishes it.
 //!
-//! A line is read after the answer to the previous one, so a script that waits for an answer finds the program as the
-//! run left it: it can read how much memory and time the program uses.
+//! The program reads a line only after it answered the one before. So a script that waits for an answer can read how
+//! much memory and time the program used up to that run.
 #![tactic(auto)]
 
 mod guests;
@@ -37,7 +37,7 @@ fn taken(alloc: Global, word: &str, count: u64) -> Option<u64> {
     }
 }
 
-/// Some rounds, and what they gave.
+/// Runs some rounds, and prints what they gave.
 fn rounded(alloc: Global, word: &str, count: u64) -> Result<String, AllocError> {
     match taken(alloc, word, count) {
         Some(taken) => format!(in alloc; "{word} {count}: {taken} messages"),
@@ -45,7 +45,7 @@ fn rounded(alloc: Global, word: &str, count: u64) -> Result<String, AllocError> 
     }
 }
 
-/// What all visits up to now gave.
+/// The line that says what all visits up to now gave.
 fn outgoing(alloc: Global, guests: &Guests) -> Result<String, AllocError> {
     let events = guests.events();
     format!(in alloc;
@@ -54,7 +54,7 @@ fn outgoing(alloc: Global, guests: &Guests) -> Result<String, AllocError> {
     )
 }
 
-/// Some visits, and what all up to now gave.
+/// Makes some visits, and returns the line of all visits up to now.
 fn visited(alloc: Global, guests: &mut Guests, count: u64) -> Result<String, AllocError> {
     match guests.visits(count) {
         Some(()) => {
@@ -65,7 +65,7 @@ fn visited(alloc: Global, guests: &mut Guests, count: u64) -> Result<String, All
     }
 }
 
-/// A run, and its answer.
+/// Makes a run, and returns its line.
 fn answer(alloc: Global, guests: &mut Guests, line: &str) -> Result<String, AllocError> {
     match line.split_once(' ') {
         Some(("visits", count)) => visited(alloc, guests, number(count)),
@@ -74,7 +74,7 @@ fn answer(alloc: Global, guests: &mut Guests, line: &str) -> Result<String, Allo
     }
 }
 
-/// All runs, and their answers.
+/// Makes all runs, and prints their lines.
 fn run(rt: &HostRuntime, guests: &mut Guests) -> io::Result<()> {
     for line in rt.lines(rt.alloc()) {
         let answer = answer(rt.alloc(), guests, line?.as_str())?;

@@ -5,7 +5,7 @@ use live_input::Client;
 use std::alloc::Global;
 use touch_region::Rect;
 
-/// The moment of a round: one every millisecond.
+/// The time of a round: one every millisecond.
 fn moment(round: u64) -> Option<Moment> {
     Moment::new(round.saturating_mul(1000))
 }
@@ -41,12 +41,12 @@ fn row(number: u8) -> Rect {
     }
 }
 
-/// Where a window is, of so many: one has the whole display, more of them a row each.
+/// Where a window is: a single one has the whole display, and of several each has a row.
 fn frame(number: u8, count: u8) -> Rect {
     if count == 1 { whole() } else { row(number) }
 }
 
-/// So many clients are opened, each with its window.
+/// Opens this many clients, each with its window.
 fn open(service: &mut Service, count: u8) -> Option<Vec<Client>> {
     let mut clients = Vec::new(service.alloc);
     let mut windows = Vec::new(service.alloc);
@@ -60,7 +60,7 @@ fn open(service: &mut Service, count: u8) -> Option<Vec<Client>> {
     Some(clients)
 }
 
-/// So many fingers go down, in one packet.
+/// Puts this many fingers down, in one packet.
 fn down(service: &mut Service, fingers: u8) -> Option<()> {
     let now = Moment::zero();
     for finger in 0..fingers {
@@ -70,14 +70,14 @@ fn down(service: &mut Service, fingers: u8) -> Option<()> {
     service.report(now)
 }
 
-/// The finger of the slot moves. That is three events.
+/// Moves the finger of the current slot, with three events.
 fn move_one(service: &mut Service, now: Moment, round: u64) -> Option<()> {
     let (x, y) = at(0, round);
     service.at(now, x, y)?;
     service.report(now)
 }
 
-/// Ten fingers move. That is 31 events.
+/// Moves ten fingers, with 31 events.
 fn move_ten(service: &mut Service, now: Moment, round: u64) -> Option<()> {
     for finger in 0..10 {
         let (x, y) = at(finger, round);
@@ -121,7 +121,7 @@ fn round_ten(service: &mut Service, clients: &[Client], round: u64) -> Option<u6
     take_each(service, now, clients)
 }
 
-/// Some rounds of one finger over one window, after it went down.
+/// Some rounds of one finger over one window, after the finger went down.
 fn rounds_of_one(service: &mut Service, rounds: u64) -> Option<u64> {
     let clients = open(service, 1)?;
     down(service, 1)?;
@@ -133,7 +133,7 @@ fn rounds_of_one(service: &mut Service, rounds: u64) -> Option<u64> {
     Some(taken)
 }
 
-/// Some rounds of ten fingers over five windows, after they went down.
+/// Some rounds of ten fingers over five windows, after the fingers went down.
 fn rounds_of_ten(service: &mut Service, rounds: u64) -> Option<u64> {
     let clients = open(service, 5)?;
     down(service, 10)?;
@@ -145,7 +145,7 @@ fn rounds_of_ten(service: &mut Service, rounds: u64) -> Option<u64> {
     Some(taken)
 }
 
-/// How many messages clients take in some rounds of one finger over one window, and as it goes down.
+/// How many messages clients receive in some rounds of one finger over one window, including those of its going down.
 pub(crate) fn one(alloc: Global, rounds: u64) -> Option<u64> {
     match Service::new(alloc) {
         Some(mut service) => rounds_of_one(&mut service, rounds),
@@ -153,7 +153,8 @@ pub(crate) fn one(alloc: Global, rounds: u64) -> Option<u64> {
     }
 }
 
-/// How many messages clients take in some rounds of ten fingers over five windows, and as they go down.
+/// How many messages clients receive in some rounds of ten fingers over five windows, including those of their going
+/// down.
 pub(crate) fn ten(alloc: Global, rounds: u64) -> Option<u64> {
     match Service::new(alloc) {
         Some(mut service) => rounds_of_ten(&mut service, rounds),

@@ -20,7 +20,7 @@ pub(crate) struct Service {
     pub events: u64,
 }
 
-/// A panel with ten slots more.
+/// Plugs in a panel with ten slots.
 fn plug_in(live: &mut Live) -> Option<DeviceId> {
     let x = Axis { min: 0, max: 1079 };
     let y = Axis { min: 0, max: 2399 };
@@ -28,7 +28,7 @@ fn plug_in(live: &mut Live) -> Option<DeviceId> {
     live.add_touch(DisplayId::zero(), 10, cook).ok()
 }
 
-/// A service with a panel, if it can be plugged in.
+/// A service with a panel, if it could be plugged in.
 fn with_panel(alloc: Global, mut live: Live) -> Option<Service> {
     match plug_in(&mut live) {
         Some(panel) => Some(Service {
@@ -41,7 +41,7 @@ fn with_panel(alloc: Global, mut live: Live) -> Option<Service> {
     }
 }
 
-/// The window of a client, which can be touched where it is.
+/// The window of a client, which can be touched in its whole frame.
 pub(crate) fn window(alloc: Global, client: Client, frame: Rect) -> Option<ClientWindow> {
     let mut rects = Vec::new(alloc);
     rects.push(frame).ok()?;
@@ -64,7 +64,7 @@ fn seq_of(message: &Message) -> Option<u64> {
 
 /// Each call returns None if the service refuses it.
 impl Service {
-    /// A service without clients, whose clients may leave a message unfinished for five seconds.
+    /// A service without clients. A client may leave a message unfinished for five seconds.
     pub(crate) fn new(alloc: Global) -> Option<Service> {
         let limit = Limit::new(5_000_000)?;
         match Live::new(alloc, limit, &Displays::new()) {
@@ -73,36 +73,36 @@ impl Service {
         }
     }
 
-    /// An event of the panel.
+    /// Hands in an event of the panel.
     fn event(&mut self, now: Moment, kind: u16, code: u16, value: i32) -> Option<()> {
         self.events = self.events.saturating_add(1);
         self.live.event(now, self.panel, kind, code, value).ok()
     }
 
-    /// The slot that the next events are about.
+    /// Chooses the slot that the next events belong to.
     pub(crate) fn slot(&mut self, now: Moment, slot: u8) -> Option<()> {
         self.event(now, EV_ABS, ABS_MT_SLOT, i32::from(slot))
     }
 
-    /// A finger with this tracking id goes down in a slot, at a place.
+    /// Puts a finger with this tracking id down in a slot, at a position.
     pub(crate) fn down(&mut self, now: Moment, slot: u8, id: i32, x: i32, y: i32) -> Option<()> {
         self.slot(now, slot)?;
         self.event(now, EV_ABS, ABS_MT_TRACKING_ID, id)?;
         self.at(now, x, y)
     }
 
-    /// The finger of the slot goes up.
+    /// Lifts the finger of the slot.
     pub(crate) fn up(&mut self, now: Moment) -> Option<()> {
         self.event(now, EV_ABS, ABS_MT_TRACKING_ID, -1)
     }
 
-    /// The finger of the slot is at a place.
+    /// Moves the finger of the slot to a position.
     pub(crate) fn at(&mut self, now: Moment, x: i32, y: i32) -> Option<()> {
         self.event(now, EV_ABS, ABS_MT_POSITION_X, x)?;
         self.event(now, EV_ABS, ABS_MT_POSITION_Y, y)
     }
 
-    /// The packet ends.
+    /// Ends the packet.
     pub(crate) fn report(&mut self, now: Moment) -> Option<()> {
         self.event(now, EV_SYN, SYN_REPORT, 0)
     }
@@ -127,7 +127,7 @@ impl Service {
         }
     }
 
-    /// A client receives all its messages, and finishes them if it is one that does. Returns how many there were.
+    /// A client receives all its messages, and finishes them if it is one that finishes. Returns how many there were.
     pub(crate) fn take_all(&mut self, now: Moment, client: Client, finishes: bool) -> Option<u64> {
         let mut taken: u64 = 0;
         for _ in 0..u64::MAX {

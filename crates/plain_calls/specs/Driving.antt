@@ -28,7 +28,7 @@ use Rattle.live_input.specs.State.{LiveState, latest}
 abbrev pub IsDue : LiveState → Option ℕ → Type 0
 IsDue s r = (ds : List ℕ) (es : List Effect) → LiveIs ds es s → r ≡ due_of es s
 
--- what is due up to a moment
+-- what is due up to a time
 pub record CaughtUp (now : ℕ) (old new : LiveState) (r : Result ℕ AllocError) : Type 0 where
   pub ok :
       (ds : List ℕ) (es : List Effect) → LiveIs ds es old

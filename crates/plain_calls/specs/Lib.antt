@@ -15,3 +15,4 @@ pub mod Windows
 pub mod Showing
 pub mod Asking
 pub mod Laws
+pub mod Through

@@ -4,7 +4,7 @@ use Rattle.gesture_verifier.specs.Told.{is_device}
 use Rattle.window_snapshot.specs.declared.occlusion.Occlusion.{Occlusion}
 use Rattle.window_snapshot.specs.declared.occlusion.Occlusion.TheVariants.{Block, Opacity, Allow}
 
--- a moment in microseconds: at most 10^18
+-- a time in microseconds: at most 10^18
 abbrev pub moment_of : ℕ → Option ℕ
 moment_of us = if nat_le us (10 ^ 18) then Some us else None
 

@@ -93,7 +93,7 @@ abbrev pub message_in : Result (Option Message) AllocError → Option Message
 message_in (Ok message) = message
 message_in (Err error) = None
 
--- the status of what is due up to a moment
+-- the status of what is due up to a time
 abbrev pub advance_status : Result ℕ AllocError → ℕ
 advance_status (Ok mask) = status.is_ok
 advance_status (Err error) = status.no_memory

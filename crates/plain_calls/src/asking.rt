@@ -1,43 +1,15 @@
 //! What can be asked about clients.
 ghost use Rattle.std.specs.Prelude.{◌≡◌};
-ghost use Rattle.live_input.specs.Seats.{is_open};
-ghost use Rattle.plain_calls.specs.Asking.{client_on, AnswersClient, HasFocus, GetsKeys, Responds, Holds, IsClock};
+ghost use Rattle.plain_calls.specs.Asking.{HasFocus, GetsKeys, Responds, Holds, IsClock};
 ghost use Rattle.plain_calls.specs.Calling.{Reads, Replies, answer_status, written};
 ghost use Rattle.plain_calls.specs.Clients.{client_of, plain_client};
 ghost use Rattle.plain_calls.specs.Numbers.{device_of, display_of, flag};
 ghost use Rattle.plain_calls.specs.Status.{is_ok};
 
-use crate::client::{PlainClient, plain_client};
+use crate::client::{PlainClient, answer_client, plain_client};
 use crate::numbers::{device_of, display_of, flag};
-use crate::status::{NOTHING, OK, RANGE};
-use live_input::{Client, Live};
-
-/// Returns an optional client. `NOTHING` if there is none; `client` then stays as it was.
-fn send(found: Option<Client>, client: &mut PlainClient) -> u32
-    ensures { AnswersClient result found client.old client.new }
-{
-    match found {
-        Some(found) => {
-            *client = plain_client(found);
-            OK
-        }
-        None => NOTHING,
-    }
-}
-
-/// Whether a client is open: 1 or 0.
-pub fn is_open(live: &Live, client: &PlainClient) -> u8
-    ensures { result ≡ flag (is_open live.now.seats (client_of client.now)) }
-{
-    flag(live.is_open(client.read()))
-}
-
-/// The client that is open on a channel. `NOTHING` if none is.
-pub fn client_at(live: &Live, channel: u32, client: &mut PlainClient) -> u32
-    ensures { AnswersClient result (client_on live.now channel) client.old client.new }
-{
-    send(live.client_at(channel), client)
-}
+use crate::status::{OK, RANGE};
+use live_input::Live;
 
 /// The client that has the focus of a display. `NOTHING` if none has.
 pub fn focused(live: &Live, display: u8, client: &mut PlainClient) -> u32
@@ -48,7 +20,7 @@ pub fn focused(live: &Live, display: u8, client: &mut PlainClient) -> u32
     let Some(display) = display_of(display) else {
         return RANGE;
     };
-    send(live.focused(display), client)
+    answer_client(live.focused(display), client)
 }
 
 /// The client that keys go to. `NOTHING` if there is none.
@@ -56,10 +28,10 @@ pub fn key_target(live: &Live, client: &mut PlainClient) -> u32
     ensures { Replies answer_status result
         (λ r. GetsKeys live.now r × (client.new ≡ written plain_client r client.old)) }
 {
-    send(live.key_target(), client)
+    answer_client(live.key_target(), client)
 }
 
-/// Whether a client is open and responds: 1 or 0.
+/// Whether a client is open and responds, as 1 or 0.
 pub fn is_responsive(live: &Live, client: &PlainClient) -> u8
     ensures { Responds live.now (client_of client.now) result }
 {
@@ -78,7 +50,7 @@ pub fn holds(live: &Live, client: &PlainClient, device: u8, ids: &mut u32) -> u3
     OK
 }
 
-/// The clock: the latest moment that was handed in, in microseconds.
+/// The clock: the latest time that was handed in, in microseconds.
 pub fn clock(live: &Live) -> u64
     ensures { IsClock live.now result }
 {

@@ -1,7 +1,8 @@
 //! The live service in plain numbers, as programs in C call it.
 //!
 //! A program in C hands in numbers and structs of numbers, and gets back a status and such structs. Each call here
-//! reads the numbers, makes one call of `live_input`, and returns the status of its reply, one for each refusal:
+//! reads the numbers, makes one call of `live_input`, and returns the status of its reply. Each refusal has a status of
+//! its own:
 //!
 //! ```text
 //! coming::open                                              0, and the client is generation 1, channel 1
@@ -12,18 +13,19 @@
 //! getting::finish   1, of generation 7, channel 1           8, NOT_OPEN
 //! ```
 //!
-//! A number out of its range is reported before anything changes (`Reads` of specs/Calling). A clause says which
-//! reply the status stands for, and that everything that `live_input` says about its call holds (`Replies`).
+//! A number out of its range is reported before anything changes (`Reads` of specs/Calling). The clause of a call says
+//! which reply its status stands for, and that everything holds that `live_input` says about this call (`Replies`).
 #![tactic(auto)]
 
 pub mod asking;
 mod client;
-pub mod coming;
+pub mod clients;
 pub mod driving;
-pub mod getting;
+pub mod giving;
 pub mod laws;
-pub mod layouts;
+mod layouts;
 mod message;
+pub mod messages;
 mod numbers;
 pub mod plugging;
 mod pointers;
@@ -31,6 +33,7 @@ mod replies;
 mod screens;
 pub mod showing;
 pub mod status;
+pub mod through;
 mod told;
 mod windows;
 

@@ -60,7 +60,8 @@ impl PlainMessage {
         })
     }
 
-    /// Ready args of a device; None if a number is out of its range. A key's flags and its repeat number are ignored.
+    /// The message as args of a device; None if a number is out of its range. A key's flags and its repeat number are
+    /// ignored.
     pub(crate) fn args(&self) -> Option<Args>
         ensures { result ≡ args_of self.now }
     {
@@ -75,7 +76,7 @@ impl PlainMessage {
         }
     }
 
-    /// What it says.
+    /// The body of the message; None if a number is out of its range.
     fn body(&self) -> Option<Body>
         ensures { result ≡ body_of self.now }
     {

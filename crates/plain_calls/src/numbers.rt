@@ -6,7 +6,7 @@ ghost use Rattle.plain_calls.specs.Numbers.{moment_of, device_of, display_of, pe
 use input_types::{DeviceId, DisplayId, Limit, Moment};
 use window_snapshot::{Occlusion, Percent};
 
-/// The moment at so many microseconds, if they are at most 10^18.
+/// The time with this many microseconds, if it is at most 10^18.
 pub(crate) fn moment_of(us: u64) -> Option<Moment>
     ensures { result ≡ moment_of us }
 {
@@ -16,7 +16,7 @@ pub(crate) fn moment_of(us: u64) -> Option<Moment>
     Some(Moment::new(us).unwrap())
 }
 
-/// The device of a number, if it is 1 to 8.
+/// The device with a number, if it is 1 to 8.
 pub(crate) fn device_of(number: u8) -> Option<DeviceId>
     ensures { result ≡ device_of number }
 {
@@ -26,7 +26,7 @@ pub(crate) fn device_of(number: u8) -> Option<DeviceId>
     Some(DeviceId::new(number).unwrap())
 }
 
-/// The display of a number, if it is 0 to 3.
+/// The display with a number, if it is 0 to 3.
 pub(crate) fn display_of(number: u8) -> Option<DisplayId>
     ensures { result ≡ display_of number }
 {
@@ -36,7 +36,7 @@ pub(crate) fn display_of(number: u8) -> Option<DisplayId>
     Some(DisplayId::new(number).unwrap())
 }
 
-/// The share of so many per cent, if they are at most 100.
+/// The percentage, if it is at most 100.
 pub(crate) fn percent_of(number: u8) -> Option<Percent>
     ensures { result ≡ percent_of number }
 {
@@ -46,7 +46,7 @@ pub(crate) fn percent_of(number: u8) -> Option<Percent>
     Some(Percent::new(number).unwrap())
 }
 
-/// The occlusion of a number, if it is 0 to 2.
+/// The occlusion with a number, if it is 0 to 2.
 pub(crate) fn occlusion_of(number: u8) -> Option<Occlusion>
     ensures { result ≡ occlusion_of number }
 {
@@ -54,7 +54,7 @@ pub(crate) fn occlusion_of(number: u8) -> Option<Occlusion>
     occlusions.get(usize::from(number)).copied()
 }
 
-/// The limit of so many microseconds, if they are 1,000 to 600,000,000.
+/// The limit with this many microseconds, if it is 1,000 to 600,000,000.
 pub fn limit_of(us: u64) -> Option<Limit>
     ensures { result ≡ limit_of us }
 {

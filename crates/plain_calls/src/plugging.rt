@@ -1,16 +1,22 @@
-//! Devices that are plugged in.
-ghost use Rattle.std.specs.Prelude.{◌≡◌, slice_get};
+//! Devices that come and go.
+ghost use Rattle.std.specs.Prelude.{◌≡◌, slice_get, ℕ, nat_eq, Ok};
 ghost use Rattle.plain_calls.specs.Calling.{Reads, Replies, ok_of, written};
-ghost use Rattle.plain_calls.specs.Driving.{TouchAdded};
-ghost use Rattle.plain_calls.specs.Numbers.{display_of};
+ghost use Rattle.plain_calls.specs.Driving.{TouchAdded, Removed};
+ghost use Rattle.plain_calls.specs.Numbers.{display_of, moment_of, device_of};
 ghost use Rattle.plain_calls.specs.Plugging.{axis_of, rotations, cook_of};
-ghost use Rattle.plain_calls.specs.Replies.{add_status};
+ghost use Rattle.plain_calls.specs.Replies.{add_status, args_status};
+ghost use Rattle.plain_calls.specs.Layouts.{AddsKeys, layout_from};
+ghost use Rattle.plain_calls.specs.Status.{no_memory};
 
-use crate::numbers::display_of;
-use crate::status::{BAD_SLOTS, OK, RANGE, TOO_MANY};
+use crate::layouts::{NoLayout, read_layout};
+use crate::numbers::{device_of, display_of, moment_of};
+use crate::replies::args_status;
+use crate::status::{BAD_LAYOUT, BAD_SLOTS, MEMORY, OK, RANGE, TOO_MANY};
 use device_reader::touch_mapper::Cook;
-use input_types::{Axis, Rotation};
+use input_types::{Axis, DisplayId, Rotation};
+use key_layout::Layout;
 use live_input::{AddRefused, Live};
+use std::alloc::Global;
 
 /// The range of the raw positions of a panel on one axis, both ends included: `struct inputflinger_axis`.
 #[repr(C)]
@@ -81,6 +87,65 @@ pub fn add_touch(live: &mut Live, display: u8, slots: u8, cook: &PlainCook, devi
         return RANGE;
     };
     match live.add_touch(display, slots, cook) {
+        Ok(added) => {
+            *device = added.get();
+            OK
+        }
+        Err(AddRefused::TooMany) => TOO_MANY,
+        Err(AddRefused::BadSlots) => BAD_SLOTS,
+    }
+}
+
+/// Unplugs a device.
+pub fn remove_device(live: &mut Live, now_us: u64, device: u8) -> u32
+    ensures { Reads (moment_of now_us) result (live.new ≡ live.old)
+        (λ now. Reads (device_of device) result (live.new ≡ live.old)
+        (λ d. Replies args_status result (Removed now d live.old live.new))) }
+{
+    let Some(now) = moment_of(now_us) else {
+        return RANGE;
+    };
+    let Some(device) = device_of(device) else {
+        return RANGE;
+    };
+    args_status(live.remove_device(now, device))
+}
+
+/// Plugs in a device with keys on a display, with a layout in the form of Android's `.kl` files. `BAD_LAYOUT` if the
+/// text is not a layout; `line` is then its first refused line. `TOO_MANY` if all numbers of the display are taken,
+/// and `MEMORY` if memory runs out. On an error `device` stays as it was.
+pub fn add_keys(
+    alloc: Global,
+    live: &mut Live,
+    display: u8,
+    text: &[u8],
+    device: &mut u8,
+    line: &mut u64,
+) -> u32
+    ensures { Reads (display_of display) result
+        ((live.new ≡ live.old) × ((device.new ≡ device.old) × (line.new ≡ line.old)))
+        (λ y. AddsKeys (nat_eq result no_memory) (layout_from text.now) result y live.old live.new
+        device.old device.new line.old line.new) }
+{
+    let Some(display) = display_of(display) else {
+        return RANGE;
+    };
+    match read_layout(alloc, text) {
+        Ok(layout) => plug_in(live, display, layout, device),
+        Err(NoLayout::Line(refused)) => {
+            *line = refused;
+            BAD_LAYOUT
+        }
+        Err(NoLayout::Memory) => MEMORY,
+    }
+}
+
+/// Plugs in a device with keys of this layout.
+fn plug_in(live: &mut Live, display: DisplayId, layout: Layout, device: &mut u8) -> u32
+    ensures { (line : ℕ) → AddsKeys (nat_eq result no_memory) (Ok layout) result display live.old live.new
+        device.old device.new line line }
+{
+    match live.add_keys(display, layout) {
         Ok(added) => {
             *device = added.get();
             OK

@@ -5,7 +5,7 @@ ghost use Rattle.plain_calls.specs.Plain.{actions, pointer_of, pointers_from};
 use crate::message::PlainPointer;
 use input_types::{MotionAction, Pixel, Pointer, PointerId, Pointers};
 
-/// The action of a number.
+/// The action with a number.
 pub(crate) fn action_of(number: u8) -> Option<MotionAction>
     ensures { result ≡ slice_get actions number }
 {

@@ -54,7 +54,7 @@ pub(crate) fn pilfer_status(reply: Result<(), PilferRefused>) -> u32
     }
 }
 
-/// The status of what a device delivered, or of its removal.
+/// The status of what a device gave, or of its removal.
 pub(crate) fn args_status(reply: Result<(), ArgsRefused>) -> u32
     ensures { result ≡ args_status reply }
 {

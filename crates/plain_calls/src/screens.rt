@@ -14,7 +14,7 @@ pub struct PlainDisplays {
 }
 
 impl PlainDisplays {
-    /// The displays; None if a number is not that of a display.
+    /// The displays; None if a number is no display's.
     pub fn read(&self) -> Option<Displays>
         ensures { result ≡ displays_of self.now }
     {
@@ -44,7 +44,7 @@ fn displays(numbers: &[u8; 8]) -> Displays
     displays
 }
 
-/// The device at a place, from 0, has the display of this number.
+/// Gives the device at an index, from 0, the display with this number.
 fn put(displays: &mut Displays, place: usize, number: u8)
     requires place { place < 8 }
     requires number { nat_le number 3 ≡ true }

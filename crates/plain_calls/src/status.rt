@@ -15,7 +15,7 @@ pub const MEMORY: u32 = 3;
 /// A number is out of its range. Nothing changed.
 pub const RANGE: u32 = 4;
 
-/// The message was not allowed when it came. The judge stays as it was.
+/// The message is not allowed where it came. The judge stays as it was.
 pub const BROKEN: u32 = 5;
 
 /// There is no room for the whole result. Its length is returned, and the front of a text, but no element of a list.
@@ -27,7 +27,7 @@ pub const NOT_OPEN: u32 = 8;
 /// 64 clients are open. Nothing changed.
 pub const FULL: u32 = 9;
 
-/// There is nothing to return: no message, no moment, no client. Nothing changed.
+/// There is nothing to return: no message, no time, no client. Nothing changed.
 pub const NOTHING: u32 = 10;
 
 /// The client did not receive the message, or finished it already. Only the clock changed.

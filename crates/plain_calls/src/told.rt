@@ -18,7 +18,7 @@ impl PlainMessage {
         plain
     }
 
-    /// A message with only its number and its moment filled in.
+    /// A message with only its number and its time filled in.
     fn numbered(seq: u64, moment: Moment) -> PlainMessage
         ensures { result ≡ numbered seq moment }
     {
@@ -93,7 +93,7 @@ fn plain_pointer(pointer: &Pointer) -> PlainPointer
     }
 }
 
-/// Writes pointers to the first slots.
+/// Writes pointers to the first places.
 fn write_pointers(places: &mut [PlainPointer; 16], pointers: &[Pointer])
     requires { length pointers.now ≤ 16 }
     ensures { places.new ≡ map plain_pointer pointers.now ++ drop (length pointers.now) places.old }

@@ -37,7 +37,7 @@ pub struct PlainWindow {
     pub display: u8,
     /// Ignored. The members up to here are those of the first release.
     pub unused: [u8; 7],
-    /// Whose it is. Windows of one owner trust each other.
+    /// Its owner. Windows of one owner trust each other.
     pub owner: u32,
     /// How much it hides of what is behind it, in per cent.
     pub opacity: u8,

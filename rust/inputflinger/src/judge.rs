@@ -7,32 +7,32 @@ use std::fmt;
 use std::mem::size_of;
 use std::ptr;
 
-/// Why a message may not come: the first reason that holds of those of its kind.
+/// Why a message is not allowed: the first reason for its kind that holds.
 #[derive(Clone, Copy, Debug, PartialEq, Eq)]
 pub enum Reason {
-    /// A motion is canceled that is no `PointerUp`, or an `Outside` has a mark.
+    /// A motion other than `PointerUp` is canceled, or an `Outside` has a mark.
     Flags,
-    /// A `Down` where pointers are down, or a `PointerDown` of a pointer that is down.
+    /// A `Down` while pointers are down, or a `PointerDown` of a pointer that is already down.
     AlreadyDown,
     /// A `Down` or an `Outside` that does not list exactly one pointer.
     OnePointer,
-    /// A motion that goes on or ends where no pointer is down.
+    /// A motion goes on or ends while no pointer is down.
     NothingDown,
-    /// The listed pointers are not those that are down, but for the one that goes down.
+    /// The listed pointers are not those that are down, apart from the one that goes down.
     OtherPointers,
-    /// A `PointerUp` where one pointer is down.
+    /// A `PointerUp` while only one pointer is down.
     LastPointer,
-    /// An `Up` where several pointers are down.
+    /// An `Up` while several pointers are down.
     MorePointers,
     /// A repeat of a key that is not down.
     RepeatOfNothing,
-    /// A key that is down goes down with another repeat number than the next.
+    /// A key that is down goes down with a repeat number other than the next.
     RepeatOutOfTurn,
-    /// A key goes up that is not down.
+    /// A key that is not down goes up.
     KeyNotDown,
     /// A key goes up with a repeat number other than 0.
     RepeatOnUp,
-    /// A window gets the focus that it has, or loses one that it has not.
+    /// A window gets the focus that it has, or loses a focus that it does not have.
     FocusTwice,
 }
 
@@ -56,19 +56,19 @@ impl Reason {
     }
 }
 
-/// A message that might not come, and what the window knew then.
+/// A message that was not allowed, and what the window knew at that point.
 #[derive(Clone, Copy, Debug, PartialEq, Eq)]
 pub struct Fault {
     /// How many messages were accepted before.
     pub place: u64,
-    /// The repeat number that the next down of the key of the message has to have; None where the key is up and where
-    /// the message is of no key.
+    /// The repeat number that the next down of the message's key must have; None if the key is up, or if the message
+    /// is about no key.
     pub next_repeat: Option<u64>,
-    /// The pointer ids that are down on the device of the motion, as bits; 0 where the message is no motion.
+    /// The pointer ids that are down on the device of the motion, as bits; 0 if the message is no motion.
     pub held: u32,
     /// Whether the window has the focus.
     pub focus: bool,
-    /// Why. None only where no line of a stream file says the message, as with other flags.
+    /// Why. None only if no line of a stream file can say the message, for example because of other flags.
     pub reason: Option<Reason>,
 }
 
@@ -84,14 +84,14 @@ impl Fault {
     }
 }
 
-/// Why a step was not taken. The judge is as it was.
+/// Why a message was not accepted. The judge is unchanged.
 #[derive(Clone, Copy, Debug, PartialEq, Eq)]
 pub enum StepError {
     /// A number of the message is out of its range.
     OutOfRange,
     /// The stream with this message is not well-formed.
     Broken(Fault),
-    /// Memory was wanting. Only at a key.
+    /// Out of memory. Only for a key message.
     NoMemory,
 }
 
@@ -110,7 +110,7 @@ impl fmt::Display for StepError {
 
 impl Error for StepError {}
 
-/// Memory was wanting.
+/// Out of memory.
 #[derive(Clone, Copy, Debug, PartialEq, Eq)]
 pub struct NoMemory;
 
@@ -140,7 +140,7 @@ pub struct HeldKey {
     pub scan: u16,
 }
 
-/// The judge of the messages that one window is told. It stays on its thread:
+/// The judge of the messages that one window is sent. It stays on its thread:
 ///
 /// ```compile_fail
 /// let judge = inputflinger::Judge::new().unwrap();
@@ -151,7 +151,7 @@ pub struct Judge {
 }
 
 impl Judge {
-    /// A judge of a stream that has no message yet.
+    /// A judge for a stream without messages.
     pub fn new() -> Result<Judge, NoMemory> {
         let mut judge = Judge {
             handle: sys::Judge {
@@ -166,7 +166,7 @@ impl Judge {
         }
     }
 
-    /// Accepts the next message of the stream, or says why it may not come.
+    /// Accepts the next message of the stream, or reports why it is not allowed.
     ///
     /// # Errors
     ///
@@ -214,7 +214,7 @@ impl Judge {
     ///
     /// # Errors
     ///
-    /// Memory was wanting. The judge is as it was.
+    /// Out of memory. The judge is unchanged.
     pub fn keys_down(&self) -> Result<Vec<HeldKey>, NoMemory> {
         let mut places = Vec::new();
         loop {

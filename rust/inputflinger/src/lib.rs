@@ -1,9 +1,10 @@
 //! Android's input service for programs in Rust, over `libinputflinger.a`: a [`Live`] sends touches and keys to the windows
-//! of clients, a [`Judge`] tells whether what one window is told makes sense, and [`run`] runs the program over recordings
+//! of clients, a [`Judge`] says whether what one window is sent makes sense, and [`run`] runs the program over recordings
 //! in memory.
 //!
-//! What the archive does is written in Rattle and proved; this crate declares its calls and gives them Rust's types. A
-//! [`Judge`] is shown the messages of one stream, one by one, and says at which one the stream stops to be well-formed:
+//! What the archive does is written in Rattle and proved; this crate declares its calls and gives them Rust's types. Show a
+//! [`Judge`] the messages of one stream, one by one, and it reports the first at which the stream is no longer
+//! well-formed:
 //!
 //! ```
 //! use inputflinger::{Action, Judge, Message, Motion, Pointer, Reason, StepError};

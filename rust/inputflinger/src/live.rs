@@ -8,8 +8,8 @@ use std::fmt;
 use std::mem::size_of;
 use std::ptr;
 
-/// A client of a [`Live`]: a channel, 1 to 64, and which of the clients that were opened one after another. Once it is
-/// closed it is stale for good.
+/// A client of a [`Live`]: a channel, 1 to 64, and a generation that no other client has. Once it is closed, it is stale
+/// for good.
 #[derive(Clone, Copy, Debug, PartialEq, Eq, Hash)]
 pub struct Client {
     plain: sys::Client,
@@ -34,9 +34,9 @@ pub struct Rect {
     pub left: i32,
     /// The least y.
     pub top: i32,
-    /// The x behind the last one.
+    /// The x past the last one.
     pub right: i32,
-    /// The y behind the last one.
+    /// The y past the last one.
     pub bottom: i32,
 }
 
@@ -57,13 +57,13 @@ pub mod window_flags {
     pub const NOT_TOUCHABLE: u32 = 1;
     /// It never has the focus.
     pub const NOT_FOCUSABLE: u32 = 2;
-    /// It is told of a touch that goes to a window behind it.
+    /// It is sent an `Outside` for a touch that goes to a window behind it.
     pub const WATCH_OUTSIDE_TOUCH: u32 = 4;
-    /// A finger that moves out of it may go on to the window that it comes to.
+    /// A finger that moves out of it may continue in the window that it enters.
     pub const SLIPPERY: u32 = 8;
     /// It sees the touches of what is behind it, and may pilfer them.
     pub const SPY: u32 = 16;
-    /// The fingers of one gesture are not divided between it and others.
+    /// The fingers of a gesture are not split between it and others.
     pub const PREVENT_SPLITTING: u32 = 32;
     /// It is the system's own, and neither blocks nor marks a touch.
     pub const TRUSTED_OVERLAY: u32 = 64;
@@ -88,7 +88,7 @@ pub struct Window<'a> {
     pub client: Client,
     /// 0 to 3. All pixels are those of this display.
     pub display: u8,
-    /// Where it is: its left and top edges are the origin of what the client is told.
+    /// Where it is: its left and top edges are the origin of what the client is sent.
     pub frame: Rect,
     /// Where it can be touched: at most 64 rectangles.
     pub region: &'a [Rect],
@@ -117,7 +117,7 @@ pub struct Panel {
     pub rotation: u8,
 }
 
-/// What a client is told.
+/// What a client is sent.
 #[derive(Clone, Debug, PartialEq, Eq)]
 pub struct Received {
     /// It counts from 1 for the client.
@@ -137,12 +137,12 @@ pub enum Body {
         device: u8,
         /// What it says.
         action: Action,
-        /// For `PointerDown` and `PointerUp` the place in `pointers` of the one that goes down or up, else 0.
+        /// For `PointerDown` and `PointerUp` the index in `pointers` of the one that goes down or up, otherwise 0.
         index: u8,
         /// 0 or [`FLAG_CANCELED`](crate::FLAG_CANCELED), and the marks [`FLAG_OBSCURED`](crate::FLAG_OBSCURED) and
         /// [`FLAG_PARTLY_OBSCURED`](crate::FLAG_PARTLY_OBSCURED).
         flags: u32,
-        /// All that are down, the one that goes down or up included.
+        /// All that are down, including the one that goes down or up.
         pointers: Vec<Pointer>,
     },
     /// A key that goes down or up.
@@ -190,38 +190,38 @@ impl Received {
 /// Why a call was refused.
 #[derive(Clone, Copy, Debug, PartialEq, Eq)]
 pub enum LiveError {
-    /// Memory was wanting. Nothing changed, but where the call says so.
+    /// Out of memory. Nothing changed, unless the call says otherwise.
     NoMemory,
     /// A number is out of its range. Nothing changed.
     OutOfRange,
-    /// The client is not open, or not any more. Nothing changed.
+    /// The client is not open, or no longer. Nothing changed.
     NotOpen,
     /// 64 clients are open. Nothing changed.
     Full,
-    /// The client did not get the message, or finished it already. The clock went on.
+    /// The client did not receive the message, or finished it already. The clock advanced.
     UnknownSeq,
-    /// The windows that are shown have no spy of the client. The clock went on.
+    /// The client has no spy among the shown windows. The clock advanced.
     NotSpy,
-    /// The spy holds no pointer of the device. The clock went on.
+    /// The spy holds no pointer of the device. The clock advanced.
     NothingHeld,
     /// The device is not plugged in. Nothing changed.
     NoDevice,
     /// What was handed in does not fit what its device did before, and was not taken; the rest was dispatched.
     Inconsistent,
-    /// Memory was wanting after it was taken: it is dispatched by a later call.
+    /// Out of memory after it was taken: a later call dispatches it.
     Waits,
-    /// More windows than 64, or all device numbers of the display are taken. Nothing changed.
+    /// There are more than 64 windows, or all device numbers of the display are taken. Nothing changed.
     TooMany,
     /// A panel has 1 to 16 slots. Nothing changed.
     BadSlots,
-    /// The text is no key layout. Nothing changed.
+    /// The text is not a key layout. Nothing changed.
     BadLayout {
-        /// Its first line that is refused, from 1 on.
+        /// Its first refused line, from 1 on.
         line: u64,
     },
-    /// The client of the window at this place, from 0, is not open. Nothing changed.
+    /// The client of the window at this index, from 0, is not open. Nothing changed.
     WindowNotOpen {
-        /// The first such place.
+        /// The first such index.
         place: usize,
     },
     /// The client on this channel has two windows. Nothing changed.
@@ -286,7 +286,7 @@ fn found<T>(status: i32, told: T) -> Result<Option<T>, LiveError> {
 }
 
 /// The dispatcher for a program that runs as long as its screen: clients and devices come and go, events are handed in,
-/// and each client is given its messages. It stays on its thread. Moments are microseconds, at most 10^18.
+/// and each client receives its messages. It stays on its thread. Times are microseconds, at most 10^18.
 ///
 /// ```
 /// use inputflinger::{Action, Body, Live, Message, Motion, Occlusion, Panel, Pointer, Rect, Window};
@@ -323,8 +323,8 @@ pub struct Live {
 
 impl Live {
     /// A service without clients and devices. A client that leaves a message unfinished for `limit_us`, 1,000 to
-    /// 600,000,000, is named unresponsive. `displays` has the display of each device number, 0 to 3, that of device 1
-    /// first.
+    /// 600,000,000, is reported unresponsive. `displays` has the display of each device number, 0 to 3, from device 1
+    /// on.
     ///
     /// # Errors
     ///
@@ -344,11 +344,11 @@ impl Live {
         Ok(live)
     }
 
-    /// Plugs in a touch panel of a display, with 1 to 16 slots. The answer is its number.
+    /// Plugs in a touch panel on a display, with 1 to 16 slots. Returns its number.
     ///
     /// # Errors
     ///
-    /// `OutOfRange`, `BadSlots`, and `TooMany` where all numbers of the display are taken.
+    /// `OutOfRange`, `BadSlots`, and `TooMany` if all numbers of the display are taken.
     pub fn add_touch(&mut self, display: u8, slots: u8, panel: &Panel) -> Result<u8, LiveError> {
         let panel = sys::Panel {
             x: sys::Axis {
@@ -372,8 +372,8 @@ impl Live {
         Ok(device)
     }
 
-    /// Plugs in a device with keys of a display. `layout` is a text in the form of Android's `.kl` files; a scan code
-    /// that it does not have gives the key code 0. The answer is its number.
+    /// Plugs in a device with keys on a display. `layout` is a text in the form of Android's `.kl` files; a scan code
+    /// without a line has the key code 0. Returns its number.
     ///
     /// ```
     /// use inputflinger::{Live, LiveError};
@@ -387,7 +387,7 @@ impl Live {
     ///
     /// # Errors
     ///
-    /// `OutOfRange`, `BadLayout`, `NoMemory`, and `TooMany` where all numbers of the display are taken.
+    /// `OutOfRange`, `BadLayout`, `NoMemory`, and `TooMany` if all numbers of the display are taken.
     pub fn add_keys(&mut self, display: u8, layout: &str) -> Result<u8, LiveError> {
         let (mut device, mut line) = (0, 0);
         let (text, len) = (layout.as_ptr().cast(), layout.len());
@@ -416,8 +416,8 @@ impl Live {
     ///
     /// # Errors
     ///
-    /// `NoDevice` and `OutOfRange`; `Inconsistent` where what it gave does not fit what [`args`](Live::args) gave
-    /// before; `NoMemory` where it was not taken, and `Waits` where it was.
+    /// `NoDevice` and `OutOfRange`; `Inconsistent` if what it gave does not fit what [`args`](Live::args) handed
+    /// in before; `NoMemory` if it was not taken, and `Waits` if it was.
     pub fn event(
         &mut self,
         now_us: u64,
@@ -432,7 +432,7 @@ impl Live {
         })
     }
 
-    /// Hands in a motion or a key of a device that is ready, in display pixels.
+    /// Hands in a ready-made motion or key of a device, in display pixels.
     ///
     /// # Errors
     ///
@@ -444,7 +444,7 @@ impl Live {
         self.hand_in(now_us, &message.plain)
     }
 
-    /// Hands in that a device lost events: all that is down on it is cancelled.
+    /// Hands in that a device lost events: everything that is down on it is cancelled.
     ///
     /// # Errors
     ///
@@ -464,7 +464,7 @@ impl Live {
         done(unsafe { sys::inputflinger_live_args_sized(&mut self.handle, now_us, message, size) })
     }
 
-    /// Opens a client on the first channel that nobody has.
+    /// Opens a client on the first free channel.
     ///
     /// # Errors
     ///
@@ -476,12 +476,12 @@ impl Live {
         Ok(Client { plain })
     }
 
-    /// Closes a client: its window goes, what it holds is cancelled, and what it did not take is gone.
+    /// Closes a client: its window is no longer shown, what it holds is cancelled, and what it did not receive is gone.
     ///
     /// # Errors
     ///
     /// `NotOpen` and `OutOfRange`; `NoMemory`: it is still open then, but may have lost its window, its
-    /// requests and messages.
+    /// focus requests and messages.
     pub fn close(&mut self, now_us: u64, client: Client) -> Result<(), LiveError> {
         // SAFETY: as above.
         done(unsafe { sys::inputflinger_live_close(&mut self.handle, now_us, &client.plain) })
@@ -568,7 +568,7 @@ impl Live {
         done(unsafe { sys::inputflinger_live_focus(&mut self.handle, now_us, display, &plain) })
     }
 
-    /// Takes the pointers of a device that a client whose window is a spy holds from all other windows.
+    /// Lets a client whose window is a spy take the pointers of a device that it holds from all other windows.
     ///
     /// # Errors
     ///
@@ -588,11 +588,11 @@ impl Live {
         mask
     }
 
-    /// Gives a client its next message; None where there is none, and for one that is not open.
+    /// Hands a client its next message; None if there is none, or if the client is not open.
     ///
     /// # Errors
     ///
-    /// `NoMemory`, only where the calls cannot be counted in 64 bits.
+    /// `NoMemory`, only if the calls can no longer be counted in 64 bits.
     pub fn next(&mut self, client: Client) -> Result<Option<Received>, LiveError> {
         let mut message = sys::Message::default();
         // SAFETY: as above.
@@ -603,18 +603,30 @@ impl Live {
         Ok(found(status, message)?.map(|message| Received::of(&message)))
     }
 
-    /// Says that a client is done with the message of this number, which it got.
+    /// A client finishes the message with this number, which it received.
     ///
     /// # Errors
     ///
-    /// `NotOpen`, `UnknownSeq` and `OutOfRange`; `NoMemory` only where the calls cannot be counted in 64 bits.
+    /// `NotOpen`, `UnknownSeq` and `OutOfRange`; `NoMemory` only if the calls can no longer be counted in 64 bits.
     pub fn finish(&mut self, now_us: u64, client: Client, seq: u64) -> Result<(), LiveError> {
         // SAFETY: as above.
         done(unsafe { sys::inputflinger_live_finish(&mut self.handle, now_us, &client.plain, seq) })
     }
 
-    /// The first moment at which something is due: a client that is late, or the repeat of a key that is held. While
-    /// input waits for memory, it is the clock.
+    /// Says that a client is done with every message up to this number, which it got; 0 stands for none.
+    ///
+    /// # Errors
+    ///
+    /// `NotOpen` and `OutOfRange`; `UnknownSeq` if the client did not get the message, and then nothing changed;
+    /// `NoMemory` only where the calls cannot be counted in 64 bits.
+    pub fn finish_through(&mut self, now_us: u64, client: Client, seq: u64) -> Result<(), LiveError> {
+        let (live, plain) = (&mut self.handle, &client.plain);
+        // SAFETY: as above.
+        done(unsafe { sys::inputflinger_live_finish_through(live, now_us, plain, seq) })
+    }
+
+    /// The first time at which something is due: a message that is late, or the repeat of a held key. While input waits
+    /// for memory, it is the clock.
     pub fn due(&self) -> Option<u64> {
         let mut moment_us = 0;
         // SAFETY: as above.
@@ -622,7 +634,7 @@ impl Live {
         (status == sys::OK).then_some(moment_us)
     }
 
-    /// Makes room for the next events of devices, so many and of any devices: none of them is `Waits`, if nothing waits
+    /// Makes room for this many next events, whichever devices they belong to. None of them is `Waits`, if nothing waits
     /// now and no other call comes between.
     ///
     /// # Errors
@@ -633,11 +645,11 @@ impl Live {
         done(unsafe { sys::inputflinger_live_reserve(&mut self.handle, events) })
     }
 
-    /// Does all that is due up to now. The answer is the mask of the channels that were named unresponsive.
+    /// Runs everything that is due up to now. Returns the mask of the channels that were reported unresponsive.
     ///
     /// # Errors
     ///
-    /// `OutOfRange`; `NoMemory`: a part may be done, and who was named by it is told by the next call.
+    /// `OutOfRange`; `NoMemory`: a part may be done, and the next call also reports the channels that this one found.
     pub fn advance(&mut self, now_us: u64) -> Result<u64, LiveError> {
         let mut mask = 0;
         // SAFETY: as above.
@@ -645,7 +657,7 @@ impl Live {
         Ok(mask)
     }
 
-    /// The greatest moment that was handed in.
+    /// The latest time that was handed in.
     pub fn clock(&self) -> u64 {
         let mut moment_us = 0;
         // SAFETY: as above.
@@ -657,7 +669,7 @@ impl Live {
     ///
     /// # Errors
     ///
-    /// `OutOfRange` where there is no such display.
+    /// `OutOfRange` if there is no such display.
     pub fn focused(&self, display: u8) -> Result<Option<Client>, LiveError> {
         let mut plain = sys::Client::default();
         // SAFETY: as above.
@@ -681,11 +693,11 @@ impl Live {
         told
     }
 
-    /// The ids of the pointers of a device that a client holds, as bits; 0 for one that is not open.
+    /// The ids of the pointers of a device that a client holds, as bits; 0 if the client is not open.
     ///
     /// # Errors
     ///
-    /// `OutOfRange` where there is no such device number.
+    /// `OutOfRange` if there is no such device number.
     pub fn holds(&self, client: Client, device: u8) -> Result<u32, LiveError> {
         let mut ids = 0;
         // SAFETY: as above.

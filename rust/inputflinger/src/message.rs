@@ -2,7 +2,7 @@
 
 use crate::sys;
 
-/// The flag of a `PointerUp`, and of a key that goes up, that is not meant as one.
+/// The flag of a `PointerUp`, and of a key that goes up, that must not be acted on.
 pub const FLAG_CANCELED: u32 = 0x20;
 
 /// The mark of a motion whose gesture has a finger that a window of another owner covers.
@@ -18,9 +18,9 @@ pub enum Action {
     Down = 0,
     /// The last pointer goes up.
     Up = 1,
-    /// The pointers are at these places now.
+    /// The pointers are at these positions now.
     Move = 2,
-    /// The gesture ends, and is not to be acted on.
+    /// The gesture ends, and must not be acted on.
     Cancel = 3,
     /// A pointer went down outside the window.
     Outside = 4,
@@ -63,11 +63,11 @@ pub struct Motion<'a> {
     pub device: u8,
     /// What it says.
     pub action: Action,
-    /// For `PointerDown` and `PointerUp` the place in `pointers` of the one that goes down or up, and 0 for the others.
+    /// For `PointerDown` and `PointerUp` the index in `pointers` of the one that goes down or up, and otherwise 0.
     pub index: u8,
     /// 0 or [`FLAG_CANCELED`], and the marks [`FLAG_OBSCURED`] and [`FLAG_PARTLY_OBSCURED`].
     pub flags: u32,
-    /// All pointers that are down, the one that goes down or up included, with rising ids.
+    /// All pointers that are down, including the one that goes down or up, with rising ids.
     pub pointers: &'a [Pointer],
 }
 
@@ -97,7 +97,7 @@ pub struct Key {
     pub meta: u32,
     /// Whether it goes down.
     pub down: bool,
-    /// 0, or [`FLAG_CANCELED`] for a key that goes up without being meant to.
+    /// 0, or [`FLAG_CANCELED`] for a key's up that must not be acted on.
     pub flags: u32,
     /// How often a key that stays down was repeated before; 0 for one that goes up.
     pub repeat: u32,
@@ -112,7 +112,7 @@ pub struct Message {
 }
 
 impl Message {
-    /// A motion, sent at a moment in microseconds.
+    /// A motion, sent at a time in microseconds.
     pub fn motion(moment_us: u64, motion: Motion) -> Message {
         let mut pointers = [sys::Pointer::default(); 16];
         for (place, pointer) in pointers.iter_mut().zip(motion.pointers) {
@@ -138,7 +138,7 @@ impl Message {
         }
     }
 
-    /// A key, sent at a moment in microseconds.
+    /// A key, sent at a time in microseconds.
     pub fn key(moment_us: u64, key: Key) -> Message {
         Message {
             plain: sys::Message {
@@ -157,7 +157,7 @@ impl Message {
         }
     }
 
-    /// A change of the focus, sent at a moment in microseconds: the window has it from then on, or not.
+    /// A change of the focus, sent at a time in microseconds: the window has it from then on, or not.
     pub fn focus(moment_us: u64, has: bool) -> Message {
         Message {
             plain: sys::Message {

@@ -5,7 +5,7 @@ use std::error::Error;
 use std::fmt;
 use std::ptr;
 
-/// What a run of the program came to.
+/// The result of a run of the program.
 #[derive(Clone, Debug, PartialEq, Eq)]
 pub struct Ran {
     /// The status that the program ended with, 0 to 7.
@@ -19,7 +19,7 @@ pub struct Ran {
 /// Why a run did not begin.
 #[derive(Clone, Copy, Debug, PartialEq, Eq)]
 pub enum RunError {
-    /// Memory was wanting for the words.
+    /// Out of memory for the words.
     NoMemory,
     /// There are more than three files.
     TooManyFiles,
@@ -42,7 +42,7 @@ impl fmt::Display for RunError {
 
 impl Error for RunError {}
 
-/// Runs the program `inputflinger` over files in memory: any of its commands but `race`. The words are those behind its
+/// Runs the program `inputflinger` over files in memory: any of its commands except `race`. The words are those after its
 /// name, and name the files `1`, `2` and `3`.
 ///
 /// ```
@@ -54,8 +54,8 @@ impl Error for RunError {}
 ///
 /// # Errors
 ///
-/// `TooManyFiles`, `Newline`, `NoThreads`, and `NoMemory` for the words. Where memory is wanting later the status is 6, or
-/// 5 where it is for what is printed.
+/// `TooManyFiles`, `Newline`, `NoThreads`, and `NoMemory` for the words. If memory runs out later, the status is 6, or 5 if
+/// there is none for what is printed.
 pub fn run(words: &[&str], files: &[&[u8]]) -> Result<Ran, RunError> {
     if words.iter().any(|word| word.contains('\n')) {
         return Err(RunError::Newline);
@@ -84,7 +84,7 @@ pub fn run(words: &[&str], files: &[&[u8]]) -> Result<Ran, RunError> {
     })
 }
 
-/// Runs it once, with so much room.
+/// Runs it once, with this much room.
 fn run_into(
     words: &str,
     files: &[sys::File],

@@ -1,4 +1,4 @@
-//! The calls and structs of include/inputflinger.h. A test holds their sizes against those that the archive tells.
+//! The calls and structs of include/inputflinger.h. A test compares their sizes with those that the archive states.
 
 use std::ffi::{c_char, c_void};
 
@@ -273,6 +273,12 @@ extern "C" {
         message_size: usize,
     ) -> i32;
     pub fn inputflinger_live_finish(
+        live: *mut Live,
+        now_us: u64,
+        client: *const Client,
+        seq: u64,
+    ) -> i32;
+    pub fn inputflinger_live_finish_through(
         live: *mut Live,
         now_us: u64,
         client: *const Client,

@@ -103,6 +103,7 @@ fn a_finger_that_a_spy_pilfers() -> Result<(), LiveError> {
     live.windows(0, &[window(spy, window_flags::SPY), window(behind, 0)])?;
     assert_eq!(live.pilfer(0, behind, device), Err(LiveError::NotSpy));
     assert_eq!(live.pilfer(0, spy, device), Err(LiveError::NothingHeld));
+    live.reserve(4)?;
     for (code, value) in [(57, 45), (53, 100), (54, 200)] {
         live.event(1000, device, 3, code, value)?;
     }
@@ -161,10 +162,16 @@ fn a_key_that_is_late() -> Result<(), LiveError> {
         live.finish(0, client, focus.seq),
         Err(LiveError::UnknownSeq)
     );
+    assert_eq!(
+        live.finish_through(0, client, focus.seq + 1),
+        Err(LiveError::UnknownSeq)
+    );
+    live.finish_through(0, client, focus.seq)?;
     assert_eq!(live.next(client)?.unwrap().body, Body::Key(key));
     assert_eq!(live.due(), Some(500_000));
     assert_eq!(live.advance(1_000_000)?, 0b1);
     assert!(!live.is_responsive(client));
+    live.finish_through(1_000_000, client, focus.seq + 1)?;
     assert_eq!(live.advance(u64::MAX), Err(LiveError::OutOfRange));
     Ok(())
 }

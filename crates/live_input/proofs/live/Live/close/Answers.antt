@@ -5,7 +5,7 @@ use Rattle.window_snapshot.specs.Named.{is_named}
 use Rattle.focus_resolver.specs.Resolver.{is_at}
 use Rattle.dispatch_history.specs.Effect.{past_of}
 use Rattle.dispatch_history.specs.Focus.{asked}
-use Rattle.live_input.specs.Answers.{SameClients}
+use Rattle.live_input.specs.Answers.{SameRest}
 use Rattle.live_input.specs.Seats.{IsHeld, is_held, seat_of, with_seat}
 use Rattle.live_input.specs.Standing.{LiveIs}
 use Rattle.live_input.specs.State.{LiveState}
@@ -29,7 +29,7 @@ returns-in-Ok-clause-after c = λ ds es h is.
     let held = subst (IsHeld k) (sym (ap (λ (s : LiveState). s.seats) rest)) (open_held c.args.self.now.seats c.args.client is) in
     let settled = c.in-Ok.ensures.done ds es raised held in
     let there = subst (LiveIs ds _) (sym c.self-2.view_is) settled.reached.is in
-    let same = ap (λ (s : LiveState). s.seats) c.self-2.view_is ∙ c.empty.ensures.clients.seats_are ∙ ap (λ (s : LiveState). s.seats) rest in
+    let same = ap (λ (s : LiveState). s.seats) c.self-2.view_is ∙ c.empty.ensures.rest.seats_are ∙ ap (λ (s : LiveState). s.seats) rest in
     let high = there.seats_are.held k held.0 held.1 (ap (λ ss. is_held (seat_of ss k)) (same ∙ sym (ap (λ (s : LiveState). s.seats) rest)) ∙ held.2) in
     let hidden =
     ap (λ ws. is_named ws k) (sym there.windows_are) ∙ ap (λ (s : LiveState). is_named s.windows k) c.self-2.view_is ∙ c.in-Ok.ensures.hidden in
@@ -42,16 +42,16 @@ returns-in-Ok-clause-after c = λ ds es h is.
     closed_at ds es c.args.client c.args.self.now _ n _ c.raise-now.ensures.latest
     (record {
       seats_are = c.vacate.ensures ∙ ap (λ ss. with_seat k (record { holder = None; before = (seat_of ss k).before }) ss) same;
-      opened_is = ap (λ (s : LiveState). s.opened) c.self-2.view_is ∙ c.empty.ensures.clients.opened_is ∙ ap (λ (s : LiveState). s.opened) rest;
-      limit_is = ap (λ (s : LiveState). s.limit) c.self-2.view_is ∙ c.empty.ensures.clients.limit_is ∙ ap (λ (s : LiveState). s.limit) rest;
-      devices_are = ap (λ (s : LiveState). s.devices) c.self-2.view_is ∙ c.empty.ensures.clients.devices_are ∙ ap (λ (s : LiveState). s.devices) rest;
-      pending_is = ap (λ (s : LiveState). s.pending) c.self-2.view_is ∙ c.empty.ensures.clients.pending_is ∙ ap (λ (s : LiveState). s.pending) rest;
+      opened_is = ap (λ (s : LiveState). s.opened) c.self-2.view_is ∙ c.empty.ensures.rest.opened_is ∙ ap (λ (s : LiveState). s.opened) rest;
+      limit_is = ap (λ (s : LiveState). s.limit) c.self-2.view_is ∙ c.empty.ensures.rest.limit_is ∙ ap (λ (s : LiveState). s.limit) rest;
+      devices_are = ap (λ (s : LiveState). s.devices) c.self-2.view_is ∙ c.empty.ensures.rest.devices_are ∙ ap (λ (s : LiveState). s.devices) rest;
+      pending_is = ap (λ (s : LiveState). s.pending) c.self-2.view_is ∙ c.empty.ensures.rest.pending_is ∙ ap (λ (s : LiveState). s.pending) rest;
       named_are = λ d.
           c.mask_without-self-inside.ensures.channels d
           ∙ ap (λ m. not (d == k) && mask_has m d)
-          (ap (λ (s : LiveState). s.named) c.self-2.view_is ∙ c.empty.ensures.named ∙ ap (λ (s : LiveState). s.named) rest);
+          (ap (λ (s : LiveState). s.named) c.self-2.view_is ∙ c.empty.ensures.rest.named_is ∙ ap (λ (s : LiveState). s.named) rest);
     })
-    (ap (λ (s : LiveState). s.clock) c.self-2.view_is ∙ c.empty.ensures.clock ∙ ap (λ (s : LiveState). s.clock) rest)
+    (ap (λ (s : LiveState). s.clock) c.self-2.view_is ∙ c.empty.ensures.rest.clock_is ∙ ap (λ (s : LiveState). s.clock) rest)
     (record {
       reached =
           reaches_same ds _ _ _ _ settled.reached
@@ -66,7 +66,7 @@ returns-in-Err-clause-after c = λ ds es h is.
     let rest = c.raise-now.ensures.rest in
     let raised = subst (LiveIs ds es) (sym rest) (live_later ds es _ _ h) in
     let held = subst (IsHeld k) (sym (ap (λ (s : LiveState). s.seats) rest)) (open_held c.args.self.now.seats c.args.client is) in
-    let clients = subst (λ s. SameClients s c.empty.new.self) rest c.empty.ensures.clients in (
+    let clients = subst (λ s. SameRest s c.empty.new.self) rest c.empty.ensures.rest in (
       record {
         seats_are = clients.seats_are;
         opened_is = clients.opened_is;
@@ -74,6 +74,6 @@ returns-in-Err-clause-after c = λ ds es h is.
         devices_are = clients.devices_are;
         pending_is = clients.pending_is;
       },
-      c.empty.ensures.clock ∙ ap (λ (s : LiveState). s.clock) rest,
+      c.empty.ensures.rest.clock_is ∙ ap (λ (s : LiveState). s.clock) rest,
       subst (λ n. TakenInPart ds n k (asked (past_of es)) es c.empty.new.self) c.raise-now.ensures.latest (c.in-Err.ensures.part ds es raised held),
     )

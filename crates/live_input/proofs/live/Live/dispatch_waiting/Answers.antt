@@ -49,9 +49,16 @@ loop-made-preserved c =
           let less = one_less ds c.args.now fs it.0 in
           let before = c.loop-made.invariant.steps ds es h in
           omega (arith, w, v, less, before);
-      clients = record { seats_are = c.make.ensures.clients.seats_are ∙ c.loop-made.invariant.clients.seats_are; opened_is = c.make.ensures.clients.opened_is ∙ c.loop-made.invariant.clients.opened_is; limit_is = c.make.ensures.clients.limit_is ∙ c.loop-made.invariant.clients.limit_is; devices_are = c.make.ensures.clients.devices_are ∙ c.loop-made.invariant.clients.devices_are; pending_is = c.make.ensures.clients.pending_is ∙ c.loop-made.invariant.clients.pending_is };
-      named = c.make.ensures.named ∙ c.loop-made.invariant.named;
-      clock = c.make.ensures.clock ∙ c.loop-made.invariant.clock;
+      rest =
+          record {
+            seats_are = c.make.ensures.rest.seats_are ∙ c.loop-made.invariant.rest.seats_are;
+            opened_is = c.make.ensures.rest.opened_is ∙ c.loop-made.invariant.rest.opened_is;
+            limit_is = c.make.ensures.rest.limit_is ∙ c.loop-made.invariant.rest.limit_is;
+            devices_are = c.make.ensures.rest.devices_are ∙ c.loop-made.invariant.rest.devices_are;
+            pending_is = c.make.ensures.rest.pending_is ∙ c.loop-made.invariant.rest.pending_is;
+            named_is = c.make.ensures.rest.named_is ∙ c.loop-made.invariant.rest.named_is;
+            clock_is = c.make.ensures.rest.clock_is ∙ c.loop-made.invariant.rest.clock_is;
+          };
     }
 
 pub returns-in_default-clause-done : goal.returns-in_default-clause-done

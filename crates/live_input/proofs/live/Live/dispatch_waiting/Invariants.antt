@@ -1,6 +1,6 @@
 use Rattle.std.proofs.Common.{◌≡◌, ℕ, ◌+◌, List, length}
 use Rattle.dispatch_history.specs.Effect.{Effect}
-use Rattle.live_input.specs.Answers.{SameClients}
+use Rattle.live_input.specs.Answers.{SameRest}
 use Rattle.live_input.specs.Room.{PumpsOver}
 use Rattle.live_input.specs.Settling.{Reaches, next_waiting}
 use Rattle.live_input.specs.Standing.{LiveIs}
@@ -14,7 +14,5 @@ invariant-loop-made l =
       room : (ds : List ℕ) (es : List Effect) → LiveIs ds es l.initial.self → PumpsOver l.initial.self l.self;
       steps : (ds : List ℕ) (es : List Effect) → LiveIs ds es l.initial.self
           → l.made + length l.self.dispatcher.queue.waiting ≡ length l.initial.self.dispatcher.queue.waiting;
-      clients : SameClients l.initial.self l.self;
-      named : l.self.named ≡ l.initial.self.named;
-      clock : l.self.clock ≡ l.initial.self.clock;
+      rest : SameRest l.initial.self l.self;
     }

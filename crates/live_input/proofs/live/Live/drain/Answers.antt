@@ -15,17 +15,24 @@ loop-preserved c =
       reaches = λ ds es h held.
           let r = c.loop.invariant.reaches ds es h held in
           let there = subst (LiveIs ds (extend ds es r.calls)) (sym c.self.view_is) r.is in
-          let opened = held_opened (extend ds es r.calls) _ _ c.args.channel r.is.seats_are c.loop.invariant.clients.seats_are held.0 held.1 held.2 in
+          let opened = held_opened (extend ds es r.calls) _ _ c.args.channel r.is.seats_are c.loop.invariant.rest.seats_are held.0 held.1 held.2 in
           let next = sym (c.next_left.ensures (extend ds es r.calls) (after_of (extend ds es r.calls) _ there.stands) opened) ∙ c.in-Some.is in
-          let still : IsHeld c.args.channel c.loop.self.seats = (held.0, held.1, ap (λ ss. is_held (seat_of ss c.args.channel)) c.loop.invariant.clients.seats_are ∙ held.2) in
+          let still : IsHeld c.args.channel c.loop.self.seats = (held.0, held.1, ap (λ ss. is_held (seat_of ss c.args.channel)) c.loop.invariant.rest.seats_are ∙ held.2) in
           let plain = plain_left c.loop.self.seats c.args.now c.args.channel (extend ds es r.calls) c.in-Some.call still next in
           reaches_more ds (next_left c.args.now c.args.channel) es _ c.make.new.self c.in-Some.call r next
           (c.in_ok-make.ensures.after ds (extend ds es r.calls) r.is plain.0 plain.1);
-      clients = record { seats_are = c.make.ensures.clients.seats_are ∙ c.loop.invariant.clients.seats_are; opened_is = c.make.ensures.clients.opened_is ∙ c.loop.invariant.clients.opened_is; limit_is = c.make.ensures.clients.limit_is ∙ c.loop.invariant.clients.limit_is; devices_are = c.make.ensures.clients.devices_are ∙ c.loop.invariant.clients.devices_are; pending_is = c.make.ensures.clients.pending_is ∙ c.loop.invariant.clients.pending_is };
+      rest =
+          record {
+            seats_are = c.make.ensures.rest.seats_are ∙ c.loop.invariant.rest.seats_are;
+            opened_is = c.make.ensures.rest.opened_is ∙ c.loop.invariant.rest.opened_is;
+            limit_is = c.make.ensures.rest.limit_is ∙ c.loop.invariant.rest.limit_is;
+            devices_are = c.make.ensures.rest.devices_are ∙ c.loop.invariant.rest.devices_are;
+            pending_is = c.make.ensures.rest.pending_is ∙ c.loop.invariant.rest.pending_is;
+            named_is = c.make.ensures.rest.named_is ∙ c.loop.invariant.rest.named_is;
+            clock_is = c.make.ensures.rest.clock_is ∙ c.loop.invariant.rest.clock_is;
+          };
       windows = c.make.ensures.windows ∙ c.loop.invariant.windows;
       requests = c.make.ensures.requests ∙ c.loop.invariant.requests;
-      named = c.make.ensures.named ∙ c.loop.invariant.named;
-      clock = c.make.ensures.clock ∙ c.loop.invariant.clock;
     }
 
 pub returns-in_default-clause-goes : goal.returns-in_default-clause-goes
@@ -35,5 +42,5 @@ pub returns-in_default-clause-done : goal.returns-in_default-clause-done
 returns-in_default-clause-done c = λ ds es h held.
     let r = c.loop.invariant.reaches ds es h held in
     let there = subst (LiveIs ds (extend ds es r.calls)) (sym c.self.view_is) r.is in
-    let opened = held_opened (extend ds es r.calls) _ _ c.args.channel r.is.seats_are c.loop.invariant.clients.seats_are held.0 held.1 held.2 in
+    let opened = held_opened (extend ds es r.calls) _ _ c.args.channel r.is.seats_are c.loop.invariant.rest.seats_are held.0 held.1 held.2 in
     record { reached = r; done = sym (c.next_left.ensures (extend ds es r.calls) (after_of (extend ds es r.calls) _ there.stands) opened) ∙ c.in_default.is }

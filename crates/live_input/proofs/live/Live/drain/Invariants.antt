@@ -1,6 +1,6 @@
 use Rattle.std.proofs.Common.{◌≡◌, ℕ, List}
 use Rattle.dispatch_history.specs.Effect.{Effect}
-use Rattle.live_input.specs.Answers.{SameClients}
+use Rattle.live_input.specs.Answers.{SameRest}
 use Rattle.live_input.specs.Seats.{IsHeld}
 use Rattle.live_input.specs.Settling.{Reaches, next_left}
 use Rattle.live_input.specs.Standing.{LiveIs}
@@ -11,9 +11,7 @@ abbrev pub invariant-loop : goal.invariant-loop
 invariant-loop l =
     record {
       reaches : (ds : List ℕ) (es : List Effect) → LiveIs ds es l.initial.self → IsHeld l.channel l.initial.self.seats → Reaches ds (next_left l.now l.channel) es l.self;
-      clients : SameClients l.initial.self l.self;
+      rest : SameRest l.initial.self l.self;
       windows : l.self.windows ≡ l.initial.self.windows;
       requests : l.self.requested ≡ l.initial.self.requested;
-      named : l.self.named ≡ l.initial.self.named;
-      clock : l.self.clock ≡ l.initial.self.clock;
     }

@@ -18,13 +18,13 @@ returns-clause-done c = λ ds es h held.
     let a = c.in_ok-hide.ensures.after ds es h in
     let b = c.in_ok-forget.ensures.after ds _ a in
     c.drain.ensures.done ds _ b
-    (held.0, held.1, ap (λ ss. is_held (seat_of ss c.args.channel)) (c.forget.ensures.clients.seats_are ∙ c.hide.ensures.clients.seats_are) ∙ held.2)
+    (held.0, held.1, ap (λ ss. is_held (seat_of ss c.args.channel)) (c.forget.ensures.rest.seats_are ∙ c.hide.ensures.rest.seats_are) ∙ held.2)
 
 pub returns-clause-part : goal.returns-clause-part
 returns-clause-part c = λ ds es h held.
     let fs = hidden ds c.args.now c.args.channel es in
     let b = c.in_ok-forget.ensures.part ds fs (c.in_ok-hide.ensures.after ds es h) in
-    let still : IsHeld c.args.channel c.forget.new.self.seats = (held.0, held.1, ap (λ ss. is_held (seat_of ss c.args.channel)) (c.forget.ensures.clients.seats_are ∙ c.hide.ensures.clients.seats_are) ∙ held.2) in
+    let still : IsHeld c.args.channel c.forget.new.self.seats = (held.0, held.1, ap (λ ss. is_held (seat_of ss c.args.channel)) (c.forget.ensures.rest.seats_are ∙ c.hide.ensures.rest.seats_are) ∙ held.2) in
     taken_hidden ds c.args.now c.args.channel es _
     (taken_left ds c.args.now c.args.channel (asked (past_of fs)) fs _ _ b (c.drain.ensures.goes ds (extend ds fs b.calls) b.is still))
 

@@ -23,7 +23,7 @@ loop-made-preserved c =
           subst (HandsIn ds c.args.now es c.args.self.now.pending _) (sym c.still_fits-fits.ensures)
           (hands_more ds c.args.now es c.args.self.now.pending c.loop-made.self _ c.loop-made.fits c.in_ok-is_taken.is_taken c.in-Some.next
           (drop 1 c.loop-made.self.pending) x (got_first c.loop-made.self.pending c.in-Some.next was)
-          (c.drop_first.ensures ∙ ap (drop 1) (ap (λ (s : LiveState). s.pending) c.self-in-loop-made.view_is ∙ c.notify.ensures.clients.pending_is))
+          (c.drop_first.ensures ∙ ap (drop 1) (ap (λ (s : LiveState). s.pending) c.self-in-loop-made.view_is ∙ c.notify.ensures.rest.pending_is))
           (beside_goes ds _ _ (subst (LiveIs ds _) (sym c.self-in-loop-made.view_is) there) c.self-in-loop-made.inside.devices c.drop_first.new.args.items c.self-in-loop-made.inside.clock)
           (c.in_ok-is_taken.ensures.taken ds x.so_far x.is));
       room = λ ds es h.
@@ -32,7 +32,7 @@ loop-made-preserved c =
           hands_over_more ds c.args.now x.so_far c.in-Some.next (drop 1 c.loop-made.self.pending) c.args.self.now c.loop-made.self _ x.is
           (beside_goes ds _ _ (subst (LiveIs ds _) (sym c.self-in-loop-made.view_is) there) c.self-in-loop-made.inside.devices c.drop_first.new.args.items c.self-in-loop-made.inside.clock)
           (got_first c.loop-made.self.pending c.in-Some.next was)
-          (c.drop_first.ensures ∙ ap (drop 1) (ap (λ (s : LiveState). s.pending) c.self-in-loop-made.view_is ∙ c.notify.ensures.clients.pending_is))
+          (c.drop_first.ensures ∙ ap (drop 1) (ap (λ (s : LiveState). s.pending) c.self-in-loop-made.view_is ∙ c.notify.ensures.rest.pending_is))
           (subst (λ (s : LiveState). c.loop-made.self.dispatcher.queue.spare ≤ s.dispatcher.queue.spare + 1) (sym c.self-in-loop-made.view_is)
           c.in_ok-is_taken.ensures.room)
           (ap (λ (s : LiveState). s.dispatcher.queue.pumps) c.self-in-loop-made.view_is ∙ c.in_ok-is_taken.ensures.pumps)
@@ -40,18 +40,18 @@ loop-made-preserved c =
       steps =
           let p = ap length (got_first c.loop-made.self.pending c.in-Some.next was) in
           let q =
-          ap length (c.drop_first.ensures ∙ ap (drop 1) (ap (λ (s : LiveState). s.pending) c.self-in-loop-made.view_is ∙ c.notify.ensures.clients.pending_is)) in
+          ap length (c.drop_first.ensures ∙ ap (drop 1) (ap (λ (s : LiveState). s.pending) c.self-in-loop-made.view_is ∙ c.notify.ensures.rest.pending_is)) in
           let before = c.loop-made.invariant.steps in
           omega (arith, p, q, before);
-      devices = ap (λ (s : LiveState). s.devices) c.self-in-loop-made.view_is ∙ c.notify.ensures.clients.devices_are ∙ c.loop-made.invariant.devices;
+      devices = ap (λ (s : LiveState). s.devices) c.self-in-loop-made.view_is ∙ c.notify.ensures.rest.devices_are ∙ c.loop-made.invariant.devices;
       seats =
           record {
-            seats_are = ap (λ (s : LiveState). s.seats) c.self-in-loop-made.view_is ∙ c.notify.ensures.clients.seats_are ∙ c.loop-made.invariant.seats.seats_are;
-            opened_is = ap (λ (s : LiveState). s.opened) c.self-in-loop-made.view_is ∙ c.notify.ensures.clients.opened_is ∙ c.loop-made.invariant.seats.opened_is;
-            limit_is = ap (λ (s : LiveState). s.limit) c.self-in-loop-made.view_is ∙ c.notify.ensures.clients.limit_is ∙ c.loop-made.invariant.seats.limit_is;
+            seats_are = ap (λ (s : LiveState). s.seats) c.self-in-loop-made.view_is ∙ c.notify.ensures.rest.seats_are ∙ c.loop-made.invariant.seats.seats_are;
+            opened_is = ap (λ (s : LiveState). s.opened) c.self-in-loop-made.view_is ∙ c.notify.ensures.rest.opened_is ∙ c.loop-made.invariant.seats.opened_is;
+            limit_is = ap (λ (s : LiveState). s.limit) c.self-in-loop-made.view_is ∙ c.notify.ensures.rest.limit_is ∙ c.loop-made.invariant.seats.limit_is;
           };
-      named = ap (λ (s : LiveState). s.named) c.self-in-loop-made.view_is ∙ c.notify.ensures.named ∙ c.loop-made.invariant.named;
-      clock = ap (λ (s : LiveState). s.clock) c.self-in-loop-made.view_is ∙ c.notify.ensures.clock ∙ c.loop-made.invariant.clock;
+      named = ap (λ (s : LiveState). s.named) c.self-in-loop-made.view_is ∙ c.notify.ensures.rest.named_is ∙ c.loop-made.invariant.named;
+      clock = ap (λ (s : LiveState). s.clock) c.self-in-loop-made.view_is ∙ c.notify.ensures.rest.clock_is ∙ c.loop-made.invariant.clock;
     }
 
 pub returns-in_default-clause-after : goal.returns-in_default-clause-after

@@ -1,13 +1,15 @@
-//! Clients that come and go.
+//! Opening and closing clients, and who is on a channel.
 ghost use Rattle.std.specs.Prelude.{◌≡◌};
 ghost use Rattle.plain_calls.specs.Calling.{Reads, Replies, ok_of, written};
 ghost use Rattle.plain_calls.specs.Clients.{client_of, plain_client};
 ghost use Rattle.plain_calls.specs.Coming.{Opened, Closed};
-ghost use Rattle.plain_calls.specs.Numbers.{moment_of};
+ghost use Rattle.plain_calls.specs.Numbers.{moment_of, flag};
 ghost use Rattle.plain_calls.specs.Replies.{open_status, close_status};
+ghost use Rattle.live_input.specs.Seats.{is_open};
+ghost use Rattle.plain_calls.specs.Asking.{client_on, AnswersClient};
 
-use crate::client::{PlainClient, plain_client};
-use crate::numbers::moment_of;
+use crate::client::{PlainClient, answer_client, plain_client};
+use crate::numbers::{flag, moment_of};
 use crate::replies::close_status;
 use crate::status::{FULL, MEMORY, OK, RANGE};
 use live_input::{Live, OpenRefused};
@@ -37,4 +39,18 @@ pub fn close(live: &mut Live, now_us: u64, client: &PlainClient) -> u32
         return RANGE;
     };
     close_status(live.close(now, client.read()))
+}
+
+/// Whether a client is open, as 1 or 0.
+pub fn is_open(live: &Live, client: &PlainClient) -> u8
+    ensures { result ≡ flag (is_open live.now.seats (client_of client.now)) }
+{
+    flag(live.is_open(client.read()))
+}
+
+/// The client that is open on a channel. `NOTHING` if none is.
+pub fn client_at(live: &Live, channel: u32, client: &mut PlainClient) -> u32
+    ensures { AnswersClient result (client_on live.now channel) client.old client.new }
+{
+    answer_client(live.client_at(channel), client)
 }

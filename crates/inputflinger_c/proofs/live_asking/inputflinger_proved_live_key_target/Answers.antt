@@ -4,7 +4,7 @@ use Rattle.plain_calls.specs.Asking.{GetsKeys}
 use Rattle.plain_calls.specs.Calling.{Replies, answer_status, written}
 use Rattle.plain_calls.specs.Clients.{plain_client}
 use Rattle.inputflinger_c.proofs.Looking.{looked_at}
-use Rattle.inputflinger_c.proofs.live_showing.inputflinger_proved_live_key_target.Goals as goal
+use Rattle.inputflinger_c.proofs.live_asking.inputflinger_proved_live_key_target.Goals as goal
 
 pub returns : goal.returns
 returns c =

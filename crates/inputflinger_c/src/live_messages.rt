@@ -11,10 +11,10 @@ ghost use Rattle.inputflinger_c.specs.Serving.{OnService};
 
 use crate::service::Service;
 use plain_calls::status::{FREE, OK};
-use plain_calls::{PlainClient, PlainMessage, getting};
+use plain_calls::{PlainClient, PlainMessage, messages};
 use std::alloc::Global;
 
-/// Receives the next message of a client; see `getting::next`. `FREE` if the handle is free.
+/// Receives the next message of a client; see `messages::next`. `FREE` if the handle is free.
 #[unsafe(no_mangle)]
 pub extern "C" fn inputflinger_proved_live_next(
     alloc: Global,
@@ -29,12 +29,12 @@ pub extern "C" fn inputflinger_proved_live_next(
     let Some(mut service) = live.take(alloc) else {
         return FREE;
     };
-    let status = getting::next(&mut service, client, message);
+    let status = messages::next(&mut service, client, message);
     live.put(service);
     status
 }
 
-/// Finishes a message of a client; see `getting::finish`. `FREE` if the handle is free.
+/// Finishes a message of a client; see `messages::finish`. `FREE` if the handle is free.
 #[unsafe(no_mangle)]
 pub extern "C" fn inputflinger_proved_live_finish(
     alloc: Global,
@@ -50,12 +50,12 @@ pub extern "C" fn inputflinger_proved_live_finish(
     let Some(mut service) = live.take(alloc) else {
         return FREE;
     };
-    let status = getting::finish(&mut service, now_us, client, seq);
+    let status = messages::finish(&mut service, now_us, client, seq);
     live.put(service);
     status
 }
 
-/// A spy takes the pointers of a device; see `getting::pilfer`. `FREE` if the handle is free.
+/// A spy takes the pointers of a device; see `messages::pilfer`. `FREE` if the handle is free.
 #[unsafe(no_mangle)]
 pub extern "C" fn inputflinger_proved_live_pilfer(
     alloc: Global,
@@ -72,7 +72,7 @@ pub extern "C" fn inputflinger_proved_live_pilfer(
     let Some(mut service) = live.take(alloc) else {
         return FREE;
     };
-    let status = getting::pilfer(&mut service, now_us, client, device);
+    let status = messages::pilfer(&mut service, now_us, client, device);
     live.put(service);
     status
 }
@@ -90,7 +90,7 @@ pub extern "C" fn inputflinger_proved_live_waiting(
     let Some(mut service) = live.take(alloc) else {
         return FREE;
     };
-    *mask = getting::waiting(&service);
+    *mask = messages::waiting(&service);
     live.put(service);
     OK
 }

@@ -6,7 +6,7 @@ use Rattle.live_input.specs.Room.{GivesAtOnce}
 use Rattle.live_input.specs.State.{latest}
 use Rattle.plain_calls.specs.Driving.{Happened, event}
 use Rattle.plain_calls.proofs.Reading.{read_as}
-use Rattle.plain_calls.proofs.driving.event.Goals as goal
+use Rattle.plain_calls.proofs.giving.event.Goals as goal
 
 pub returns : goal.returns
 returns c =

@@ -4,7 +4,7 @@ use Rattle.input_types.specs.declared.message.Message.{Message}
 use Rattle.plain_calls.specs.Calling.{answer_status, written}
 use Rattle.plain_calls.specs.Getting.{Received}
 use Rattle.plain_calls.specs.Told.{plain_message}
-use Rattle.plain_calls.proofs.getting.next.Goals as goal
+use Rattle.plain_calls.proofs.messages.next.Goals as goal
 
 pub returns-in-Ok-Some : goal.returns-in-Ok-Some
 returns-in-Ok-Some c =

@@ -1,7 +1,7 @@
 use Rattle.std.proofs.Common.{refl, subst}
 use Rattle.plain_calls.specs.Asking.{IsClock}
 use Rattle.inputflinger_c.proofs.Looking.{looked_at}
-use Rattle.inputflinger_c.proofs.live_showing.inputflinger_proved_live_clock.Goals as goal
+use Rattle.inputflinger_c.proofs.live_asking.inputflinger_proved_live_clock.Goals as goal
 
 pub returns : goal.returns
 returns c =

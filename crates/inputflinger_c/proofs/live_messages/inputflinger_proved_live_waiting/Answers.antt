@@ -1,7 +1,7 @@
 use Rattle.std.proofs.Common.{refl, subst}
 use Rattle.plain_calls.specs.Getting.{AreWaiting}
 use Rattle.inputflinger_c.proofs.Looking.{looked_at}
-use Rattle.inputflinger_c.proofs.live_getting.inputflinger_proved_live_waiting.Goals as goal
+use Rattle.inputflinger_c.proofs.live_messages.inputflinger_proved_live_waiting.Goals as goal
 
 pub returns : goal.returns
 returns c =

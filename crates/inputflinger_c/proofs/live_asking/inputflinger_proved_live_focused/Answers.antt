@@ -5,7 +5,7 @@ use Rattle.plain_calls.specs.Calling.{Reads, Replies, answer_status, written}
 use Rattle.plain_calls.specs.Clients.{plain_client}
 use Rattle.plain_calls.specs.Numbers.{display_of}
 use Rattle.inputflinger_c.proofs.Looking.{looked_at}
-use Rattle.inputflinger_c.proofs.live_showing.inputflinger_proved_live_focused.Goals as goal
+use Rattle.inputflinger_c.proofs.live_asking.inputflinger_proved_live_focused.Goals as goal
 
 pub returns : goal.returns
 returns c =

@@ -1,0 +1,20 @@
+-- Finishing every message of a client up to one, in terms of the service.
+use Rattle.std.specs.Prelude.{◌≡◌, ℕ, true, false, List, Result, Err}
+use Rattle.dispatch_history.specs.Effect.{Effect}
+use Rattle.live_input.specs.declared.client.Client.{Client}
+use Rattle.live_input.specs.declared.refused.FinishRefused.{FinishRefused}
+use Rattle.live_input.specs.declared.refused.FinishRefused.TheVariants.{NotOpen}
+use Rattle.live_input.specs.Answers.{SameClients}
+use Rattle.live_input.specs.Seats.{is_open, seat_of, number_of}
+use Rattle.live_input.specs.Standing.{LiveIs}
+use Rattle.live_input.specs.State.{LiveState, latest}
+use Rattle.live_input.specs.Through.{FinishesThrough}
+
+-- the result of finishing every message up to one
+pub record FinishedThrough (now : ℕ) (client : Client) (seq : ℕ) (old new : LiveState) (r : Result (Unit {0}) FinishRefused) : Type 0 where
+  pub stale : is_open old.seats client ≡ false → (r ≡ Err NotOpen) × (new ≡ old)
+  pub after :
+      (ds : List ℕ) (es : List Effect) → LiveIs ds es old → is_open old.seats client ≡ true
+      → FinishesThrough ds (latest now old) client.channel (number_of (seat_of old.seats client.channel) seq) es r old new
+  pub clients : SameClients old new
+  pub named : new.named ≡ old.named
