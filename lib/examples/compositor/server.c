@@ -1,0 +1,100 @@
+/* What wlroots needs: outputs, devices as they come, and the loop. */
+#include <time.h>
+
+#include <wlr/types/wlr_compositor.h>
+
+#include "compositor.h"
+
+static void handle_frame(struct wl_listener *listener, void *data)
+{
+	struct server *s = wl_container_of(listener, s, frame);
+	struct wlr_scene_output *scene = wlr_scene_get_scene_output(s->scene, s->output);
+	struct timespec now;
+
+	(void)data;
+	wlr_scene_output_commit(scene);
+	clock_gettime(CLOCK_MONOTONIC, &now);
+	wlr_scene_output_send_frame_done(scene, &now);
+}
+
+/* The first output is the display; others stay dark. Its units are as fine as the service takes them, at most those of wl_fixed. */
+static void handle_output(struct wl_listener *listener, void *data)
+{
+	static const float color[4] = {0.2f, 0.3f, 0.4f, 1.0f};
+	struct server *s = wl_container_of(listener, s, new_output);
+	struct wlr_output *output = data;
+
+	if (s->output || !wlr_output_init_render(output, s->allocator, s->renderer))
+		return;
+	if (wlr_output_preferred_mode(output))
+		wlr_output_set_mode(output, wlr_output_preferred_mode(output));
+	wlr_output_enable(output, true);
+	wlr_output_commit(output);
+	wlr_output_create_global(output);
+	wlr_scene_output_create(s->scene, output);
+	listen_to(&output->events.frame, &s->frame, handle_frame);
+	s->output = output;
+	s->width = output->width;
+	s->height = output->height;
+	for (s->unit = 256; s->unit > 1 && (s->width * s->unit > 16384 || s->height * s->unit > 16384); s->unit /= 2)
+		;
+	wlr_scene_node_lower_to_bottom(&wlr_scene_rect_create(&s->scene->node, s->width, s->height, color)->node);
+}
+
+static void handle_input(struct wl_listener *listener, void *data)
+{
+	struct server *s = wl_container_of(listener, s, new_input);
+	struct wlr_input_device *device = data;
+
+	if (device->type == WLR_INPUT_DEVICE_TOUCH)
+		touch_new(s, device);
+	else if (device->type == WLR_INPUT_DEVICE_KEYBOARD)
+		keys_new(s, device);
+}
+
+const char *server_begin(struct server *s, struct wlr_backend *backend)
+{
+	s->backend = backend;
+	s->renderer = backend ? wlr_renderer_autocreate(backend) : NULL;
+	s->allocator = s->renderer ? wlr_allocator_autocreate(backend, s->renderer) : NULL;
+	if (!s->allocator)
+		return NULL;
+	wlr_renderer_init_wl_display(s->renderer, s->display);
+	wlr_compositor_create(s->display, s->renderer);
+	s->scene = wlr_scene_create();
+	shell_begin(s);
+	s->seat = wlr_seat_create(s->display, "seat0");
+	wlr_seat_set_capabilities(s->seat, WL_SEAT_CAPABILITY_KEYBOARD | WL_SEAT_CAPABILITY_TOUCH);
+	listen_to(&backend->events.new_output, &s->new_output, handle_output);
+	listen_to(&backend->events.new_input, &s->new_input, handle_input);
+	return service_new(s) && wlr_backend_start(backend) ? wl_display_add_socket_auto(s->display) : NULL;
+}
+
+void server_run(struct server *s)
+{
+	struct wl_event_loop *loop = wl_display_get_event_loop(s->display);
+
+	for (s->is_running = true; s->is_running;) {
+		service_tick(s);
+		windows_settle(s);
+		service_pings(s);
+		fflush(stdout);
+		wl_display_flush_clients(s->display);
+		if (wl_event_loop_dispatch(loop, service_wait_ms(s)) < 0)
+			break;
+	}
+}
+
+void server_end(struct server *s)
+{
+	export_end(s);
+	wl_display_destroy_clients(s->display);
+	/* The devices go with the backend, while there is a service; the seat goes before the shell, whose grabs it has. */
+	wlr_backend_destroy(s->backend);
+	wlr_seat_destroy(s->seat);
+	wlr_scene_node_destroy(&s->scene->node);
+	wlr_allocator_destroy(s->allocator);
+	wlr_renderer_destroy(s->renderer);
+	wl_display_destroy(s->display);
+	inputflinger_live_free(&s->live);
+}
