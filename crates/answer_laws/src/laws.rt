@@ -7,8 +7,8 @@ pub fn taking()
     ensures order { OrderTakes }
 {}
 
-/// The words and the files, or what was read of these in a call, have one answer, unless the words are those of
-/// `race`; a refusal is always the only answer.
+/// The words and the files, or what a call read of these, have one answer, unless the words are those of `race`; a
+/// refusal is always the only answer.
 pub fn answering()
     ensures answer { OneAnswer }
     ensures refusal { OneRefusal }

@@ -19,7 +19,7 @@ fn frame_at(frame: u64, moment: Moment) -> Moment
     Moment::new(us - us % frame).unwrap()
 }
 
-/// The message at another moment.
+/// The message with another time.
 fn at_moment(moment: Moment, message: &Message) -> Message
     ensures { result ≡ at_moment moment message.now }
 {

@@ -20,12 +20,12 @@ fn channel_of(says: &StreamLine) -> Option<u32>
     }
 }
 
-/// The items of a stream file's messages for an application that begins a frame every so many microseconds: a section
+/// The items of a stream file's messages for an application that begins a frame every `frame` microseconds: a section
 /// for each channel.
 ///
-/// A message counts at the latest moment of its section so far. A frame comes before the first message in it. The
-/// file is refused as `verify` refuses it: for its first bad line, or else for the first message that may not come
-/// where it stands.
+/// A message counts at the latest time of its section so far. A frame comes before the first message in it. The file is
+/// refused as `verify` refuses it: for its first bad line, or else for the first message that is not allowed where it
+/// stands.
 pub fn batch_text(alloc: Global, bytes: &[u8], frame: u64) -> Result<Vec<u8>, FileError>
     requires { 1 ≤ frame }
     ensures ok { IfOk result (λ text. batched frame bytes.now ≡ Ok text.items) }

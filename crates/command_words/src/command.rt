@@ -110,7 +110,7 @@ fn command_with<'a>(name: Name, options: &Options<'a>) -> Option<Command<'a>>
     }
 }
 
-/// The command with a name and the words behind it.
+/// The command with a name and the words after it.
 fn behind(name: Name, words: &[String]) -> Option<Command<'_>>
     ensures value { option_map command_view result ≡ behind name (map string_bytes words.now) }
     ensures ranges { IfSome result (λ c. InRanges (command_view c)) }
@@ -126,10 +126,10 @@ fn behind(name: Name, words: &[String]) -> Option<Command<'_>>
     }
 }
 
-/// The command that words give. A page of help is a word alone. Else the first word names the command, and the others
-/// ask for its help or are its options, in any order, as `--name value` or `--name=value`: each that it needs once,
-/// those in brackets at most once, and nothing else. A value is not empty and does not begin with `-`, and a number
-/// has 1 to 10 decimal digits. None if the words do not have the form of any command.
+/// The command that words give. A page of help is a word alone. Otherwise the first word names the command, and the
+/// others ask for its help or are its options, in any order, as `--name value` or `--name=value`: each that it needs
+/// once, those in brackets at most once, and nothing else. A value is not empty and does not begin with `-`, and a
+/// number has 1 to 10 decimal digits. None if the words do not have the form of any command.
 #[tactic(auto, unfolding(crate::specs::Forms::form_of))]
 pub fn command_of(words: &[String]) -> Option<Command<'_>>
     ensures value { option_map command_view result ≡ form_of (map string_bytes words.now) }

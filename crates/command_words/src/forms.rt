@@ -136,7 +136,7 @@ pub(crate) fn judge_of<'a>(options: &Options<'a>) -> Option<Command<'a>>
     Some(Command::Alone(Alone::Judge { stream }))
 }
 
-/// The channel from 1 to 64 that an option names, if it stands. None if it stands and names none.
+/// The channel from 1 to 64 that an option gives, if the option stands. None if it stands and gives none.
 #[tactic(auto, unfolding(crate::specs::Forms::channel_of, crate::specs::Forms::number_of))]
 fn channel_of(options: &Options<'_>, name: &str) -> Option<Option<u32>>
     ensures value { result ≡ channel_of (value_of options.now) (stands_in options.now) name.now }

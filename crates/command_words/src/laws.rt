@@ -11,7 +11,7 @@ pub fn order()
     ensures { OrderLaw }
 {}
 
-/// Something is wrong with words exactly where they are of no form.
+/// Something is wrong with words exactly if they have no valid form.
 pub fn faults()
     ensures { FaultLaw }
 {}

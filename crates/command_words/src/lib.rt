@@ -10,7 +10,7 @@
 //!
 //! are the same command. The result borrows from the words, and allocates no memory.
 //!
-//! Words that give no command have a fault, which names the word, the option or the value:
+//! If words give no command, their fault names the word, the option or the value:
 //!
 //! ```text
 //! play                                   UnknownCommand("play")

@@ -74,7 +74,7 @@ pub(crate) fn is_own(name: Name, option: &str) -> bool
     is_among(option, needed_of(name)) || is_among(option, extra_of(name))
 }
 
-/// The page that a word asks for which stands alone.
+/// The page that a word asks for, if it is the only word.
 #[tactic(auto, unfolding(crate::specs::Names::page_of))]
 pub(crate) fn page_of(word: &str) -> Option<Page>
     ensures { result ≡ page_of word.now }

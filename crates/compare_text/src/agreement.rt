@@ -132,7 +132,7 @@ fn body_apart(pixels: u32, want: &Body, got: &Body) -> Option<Difference>
     }
 }
 
-/// How far a moment is from the expected one, if it is too far.
+/// How far a time is from the expected one, if it is too far.
 fn time_apart(us: u64, want: Moment, got: Moment) -> Option<Difference>
     ensures { result ≡ time_apart us want got }
 {

@@ -22,10 +22,10 @@
 //! ```
 //!
 //! and the text is `same 1 2 us 12 pixels 3`: one pair of sections, two pairs of points, and the greatest distances of
-//! these. With 2 pixels it would differ in a `place 0,3`: the actual pointer is 3 pixels too low. Sections pair by
+//! these. With 2 pixels they would differ in a `place 0,3`: the actual pointer is 3 pixels too low. Sections pair by
 //! their channels, the first of a channel with the first, the second with the second. If a channel is named for a file,
 //! only its sections are looked at, and the first is paired with the first of the other file. No message is kept:
-//! `Sections` has a reader for each section, and two readers advance in step.
+//! `Sections` has a reader for each section, and two readers proceed in step.
 #![tactic(auto)]
 
 mod agreement;

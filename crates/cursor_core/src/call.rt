@@ -5,10 +5,10 @@ ghost use Rattle.cursor_core.specs.Calls.{moment_of};
 use input_types::Moment;
 use window_snapshot::Snapshot;
 
-/// One call of a cursor. `now` is the moment of the call, and advances the clock if it is later.
+/// One call of a cursor. `now` is the time of the call, and advances the clock if it is later.
 #[derive(Drop)]
 pub enum CursorCall {
-    /// The mouse moved by so many pixels, right and down.
+    /// The mouse moved by this many pixels, right and down.
     Moved { now: Moment, dx: i64, dy: i64 },
     /// Replaces the windows by these.
     Windows { now: Moment, snapshot: Snapshot },
@@ -17,7 +17,7 @@ pub enum CursorCall {
 }
 
 impl CursorCall {
-    /// The moment of the call.
+    /// The time of the call.
     pub fn moment(&self) -> Moment
         ensures { result ≡ moment_of self.now }
     {

@@ -56,8 +56,8 @@ impl Model for Cursor {
 }
 
 impl Cursor {
-    /// A cursor in the middle of a display, in pixels of it as it is turned. The channels are numbered from 1, and
-    /// all are live. There are no windows.
+    /// A cursor in the middle of a display, in pixels of the display as it is turned. The channels are numbered from 1,
+    /// and all are live. There are no windows.
     pub fn new(alloc: Global, width: u16, height: u16, channels: u32) -> Result<Cursor, AllocError>
         requires width { (1 ≤ width) × (width ≤ 16384) }
         requires height { (1 ≤ height) × (height ≤ 16384) }
@@ -221,7 +221,7 @@ fn pixel(x: u16, y: u16) -> Pixel
     }
 }
 
-/// A pixel moved by so many pixels, and kept on the display that ends at `last`.
+/// A pixel moved by a distance, and kept on the display that ends at `last`.
 fn moved_by(last: &Pixel, at: &Pixel, dx: i64, dy: i64) -> Pixel
     ensures x { result.x ≡ int_max (pos 0) (int_min (at.now.x +ℤ dx) last.now.x) }
     ensures y { result.y ≡ int_max (pos 0) (int_min (at.now.y +ℤ dy) last.now.y) }
@@ -232,7 +232,7 @@ fn moved_by(last: &Pixel, at: &Pixel, dx: i64, dy: i64) -> Pixel
     }
 }
 
-/// A coordinate moved by so many pixels, and kept on an axis that ends at `last`.
+/// A coordinate moved by a distance, and kept on an axis that ends at `last`.
 fn kept_on(last: i32, at: i32, by: i64) -> i32
     ensures { result ≡ int_max (pos 0) (int_min (at +ℤ by) last) }
 {
@@ -256,7 +256,7 @@ fn hovered_by(moved: bool, windows: &Snapshot, live: u64, at: Pixel) -> Option<u
     touched_at(windows, at, live & windows.on(DisplayId::zero()))
 }
 
-/// The window that a touch at a pixel would go to, of those of these channels.
+/// The window that a touch at a pixel would go to, among those of these channels.
 fn touched_at(windows: &Snapshot, at: Pixel, channels: u64) -> Option<u32>
     ensures { result ≡ touched windows.now (mask_has channels) at.x at.y }
 {

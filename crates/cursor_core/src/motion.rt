@@ -41,8 +41,8 @@ impl MotionReader {
         MotionReader::begun(false, Moment::zero())
     }
 
-    /// Takes the mouse's next event, and returns the motion of the packet that it ends: at the moment of its
-    /// SYN_REPORT, or at that of an earlier packet if that is later.
+    /// Takes the mouse's next event, and returns the motion of the packet that it ends: at the time of its SYN_REPORT,
+    /// or at that of an earlier packet if that is later.
     ///
     /// A packet ends at a SYN_REPORT. One without a REL_X or REL_Y event moves nothing. After a SYN_DROPPED, by which
     /// the kernel reports lost events, the packet that has begun is dropped, and everything up to the next SYN_REPORT

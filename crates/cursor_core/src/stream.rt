@@ -76,7 +76,7 @@ impl Stream {
     }
 }
 
-/// So many channels, each of which was sent nothing.
+/// The streams of this many channels, each of which was sent nothing.
 pub(crate) fn streams(alloc: Global, channels: u32) -> Result<Vec<Stream>, AllocError>
     ensures { IfOk result (λ v. v.items ≡ replicate channels empty_row) }
 {

@@ -41,10 +41,10 @@ impl Model for DeviceReader {
 }
 
 impl DeviceReader {
-    /// The reader of a touch device with so many slots, whose positions become pixels by `cook`.
+    /// The reader of a touch device with this many slots, whose positions become pixels by `cook`.
     ///
-    /// Whatever the device sends, all that it gives keeps the rule for devices, and the ids that are down by that rule
-    /// are those of its last packet since the last SYN_DROPPED.
+    /// Whatever the device sends, everything that it gives keeps the rule for devices, and the ids that are down by
+    /// that rule are those of its last packet since the last SYN_DROPPED.
     pub fn touch(device: DeviceId, slots: u8, cook: Cook) -> DeviceReader
         requires { (1 ≤ slots) × (slots ≤ 16) }
         ensures state { DeviceStandsFor (Touches (record { device = device; slots = slots; cook = cook })) [] result }
@@ -78,14 +78,14 @@ impl DeviceReader {
 
     /// Takes the next event of the device, and adds what it gives to `args`.
     ///
-    /// A packet of a touch device ends at a SYN_REPORT and gives its motions. A key of a device with keys is given at
-    /// its own event, and waits for no SYN_REPORT. At a SYN_DROPPED the device begins anew, which is a `Reset`; the
-    /// events after it, up to and including the next SYN_REPORT, are passed over, as the kernel's document on event
-    /// codes asks. Keys of a touch device, touch of a device with keys and other events are passed over too. After out
-    /// of memory the reader and `args` are as before.
+    /// A packet of a touch device ends at a SYN_REPORT and gives its motions. A device with keys gives a key at the
+    /// key's own event, and waits for no SYN_REPORT. At a SYN_DROPPED the device begins anew, which is a `Reset`; the
+    /// events after it, up to and including the next SYN_REPORT, are skipped, as the kernel's document on event codes
+    /// asks. Keys of a touch device, touch of a device with keys and other events are skipped too. Out of memory leaves
+    /// the reader and `args` as they were.
     ///
-    /// Only the end of a packet, a key and a SYN_DROPPED ask for memory, and for none where `args` has room for the
-    /// motions of a packet, which are at most `Gestures::MOST`, but for that of a key that goes down.
+    /// Only the end of a packet, a key and a SYN_DROPPED request memory. If `args` has room for the motions of a
+    /// packet, at most `Gestures::MOST`, they request none, except that of a key that goes down.
     #[inline(always)]
     pub fn take(&mut self, event: &RawEvent, args: &mut Vec<Args>) -> Result<(), AllocError>
         requires { event.now.device ≡ self.old.device }

@@ -13,7 +13,7 @@ use raw_events::RawEvent;
 use std::alloc::AllocError;
 use std::marker::Model;
 
-/// The readers of all devices of a recording, and the greatest moment of the events that gave args.
+/// The readers of all devices of a recording, and the latest time of the events that gave args.
 #[derive(Drop)]
 pub struct Readers {
     readers: Vec<DeviceReader>,
@@ -31,7 +31,7 @@ impl Model for Readers {
 }
 
 impl Readers {
-    /// The readers of devices that have had no event, in the order of their numbers, which begin at 1.
+    /// The readers of devices that have had no event, in the order of their numbers, from 1 on.
     pub fn new(readers: Vec<DeviceReader>) -> Readers
         requires { AreNumbered readers.items }
         ensures state { (plans : List DevicePlan) → AllStandFor plans [] readers.items
@@ -45,10 +45,10 @@ impl Readers {
         }
     }
 
-    /// Takes the next event of the recording, adds what it gives to `args`, and answers the moment of that. After want
-    /// of memory the readers and `args` are as before.
+    /// Takes the next event of the recording, adds what it gives to `args`, and returns the time of that. Out of memory
+    /// leaves the readers and `args` as they were.
     ///
-    /// The moment is the greatest one of the events that gave args up to this one, so moments never fall. An event of a
+    /// The time is the latest one of the events that gave args up to this one, so times never fall. An event of a
     /// device without a reader adds nothing.
     #[inline(always)]
     pub fn take(&mut self, event: RawEvent, args: &mut Vec<Args>) -> Result<Moment, AllocError>
@@ -96,7 +96,7 @@ fn take_any(
     }
 }
 
-/// The latest moment after an event at a moment, which adds something or not.
+/// The latest time after an event, which may or may not add something.
 fn raised(latest: Moment, moment: Moment, adds: bool) -> Moment
     ensures { result ≡ (if adds then max latest moment else latest) }
 {

@@ -10,11 +10,11 @@ use input_types::{Args, Moment};
 use raw_events::RawEvent;
 use std::alloc::{AllocError, Global};
 
-/// The args that the events of a recording give, each with its moment, by the readers of all devices in the order of
-/// their numbers, which begin at 1.
+/// The args that the events of a recording give, each with its time, by the readers of all devices in the order of
+/// their numbers, from 1 on.
 ///
-/// The moment of each is the greatest one of the events that gave args up to it, so moments never fall. An event of a
-/// device without a reader gives nothing.
+/// The time of each is the latest one of the events that gave args up to it, so times never fall. An event of a device
+/// without a reader gives nothing.
 pub fn cook(
     alloc: Global,
     readers: Vec<DeviceReader>,
@@ -35,7 +35,7 @@ pub fn cook(
     Ok(given)
 }
 
-/// Puts some args with their moment behind the others.
+/// Appends some args with their time.
 fn push_all(
     given: &mut Vec<(Moment, Args)>,
     moment: Moment,

@@ -8,12 +8,11 @@
 //! ```
 //!
 //! leave two contacts: slot 0 with tracking id 45 at (100, 200) and slot 1 with tracking id 46 at (300, 400). What is
-//! not said again stays: after ABS_MT_SLOT 0 and ABS_MT_TRACKING_ID -1 slot 0 holds no contact, and a new tracking id
-//! in it stands at (100, 200) until the device writes another position.
+//! not written again stays: after ABS_MT_SLOT 0 and ABS_MT_TRACKING_ID -1 slot 0 holds no contact, and a new tracking
+//! id in it is at (100, 200) until the device writes another position.
 //!
-//! A SYN_REPORT ends a packet. A contact whose ABS_MT_TOOL_TYPE is MT_TOOL_PALM there is a palm, and stays one while
-//! its tracking id does, also if the tool type becomes another one: no hand that was taken for a palm turns into a
-//! finger.
+//! A SYN_REPORT ends a packet. A contact whose ABS_MT_TOOL_TYPE is MT_TOOL_PALM there is a palm. It stays one while its
+//! tracking id stays, even if the tool type changes: no hand that was taken for a palm turns into a finger.
 mod change;
 mod contacts;
 mod palm_slots;

@@ -34,7 +34,7 @@ pub(crate) struct Touch {
 }
 
 impl Touch {
-    /// A touch device with so many slots that has had no event.
+    /// A touch device with this many slots that has had no event.
     pub fn new(device: DeviceId, slots: u8, cook: Cook) -> Touch
         requires { (1 ≤ slots) × (slots ≤ 16) }
         ensures { TouchStandsFor (record { device = device; slots = slots; cook = cook }) [] result }
@@ -77,7 +77,7 @@ impl Touch {
 
     /// Takes the end of a packet, and adds its motions.
     ///
-    /// Where no tracking id was written and no contact is a palm, the fingers are those of the packet before: only the
+    /// If no tracking id was written and no contact is a palm, the fingers are those of the packet before: only the
     /// pointers whose slots were written get their pixels anew.
     #[inline(never)]
     fn end_packet(&mut self, event: &RawEvent, args: &mut Vec<Args>) -> Result<(), AllocError>
@@ -137,7 +137,7 @@ impl Touch {
     }
 }
 
-/// Puts the pointers whose slots were written where the slots say.
+/// Moves the pointers whose slots were written to where the slots say.
 #[inline(always)]
 fn move_pointers(gestures: &mut Gestures, slots: &Slots, written: Bits32, fingers: &[u8])
     requires { length fingers.now ≡ 16 }

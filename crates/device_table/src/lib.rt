@@ -1,7 +1,7 @@
 //! The devices that are plugged in, each with its reader, as they come and go.
 //!
-//! A device has a number from 1 to 8, and each number has its display. Where the numbers 1 and 2 are of display 0, and
-//! 3 is of display 1:
+//! A device has a number from 1 to 8, and each number has its display. Say that the numbers 1 and 2 are of display 0,
+//! and 3 is of display 1:
 //!
 //! ```text
 //! a panel of display 0 is plugged in     it is device 1, the least number of its display that is free
@@ -12,7 +12,7 @@
 //! one more of display 0                  it is device 1, and begins as if it had had no event
 //! ```
 //!
-//! An event is read by the reader of its device, which says what it adds for the dispatcher (`args_of` of
+//! The reader of a device reads the device's events, and says what each adds for the dispatcher (`args_of` of
 //! device_reader).
 #![tactic(auto)]
 

@@ -13,8 +13,7 @@ use raw_events::RawEvent;
 use std::alloc::{AllocError, Global};
 use std::marker::Model;
 
-/// The readers of the devices that are plugged in, at most 8. Contracts see them as a list of eight, that of device 1
-/// first.
+/// The readers of the devices that are plugged in, at most 8. Contracts see a list of eight, from device 1 on.
 #[derive(Drop)]
 pub struct DeviceTable {
     readers: [Option<DeviceReader>; 8],
@@ -70,8 +69,8 @@ impl DeviceTable {
         displays.of(device) == display && !self.is_there(device)
     }
 
-    /// A touch device with so many slots, whose positions become pixels by `cook`, is plugged in with this number. The
-    /// one that had it is gone.
+    /// Plugs in a touch device with this number and this many slots; `cook` turns its positions into pixels. The device
+    /// that had the number is gone.
     pub fn add_touch(&mut self, device: DeviceId, slots: u8, cook: Cook)
         requires { (1 ≤ slots) × (slots ≤ 16) }
         ensures reader { StandsAt (Touches (record { device = device; slots = slots; cook = cook })) []
@@ -81,8 +80,8 @@ impl DeviceTable {
         self.readers[row(device)] = Some(DeviceReader::touch(device, slots, cook));
     }
 
-    /// A device with keys, whose layout says which key code each scan code has, is plugged in with this number. The one
-    /// that had it is gone.
+    /// Plugs in a device with keys with this number; its layout gives the key code of each scan code. The device that
+    /// had the number is gone.
     pub fn add_keys(&mut self, alloc: Global, device: DeviceId, layout: Layout)
         ensures reader { StandsAt (Keys (record { device = device; layout = layout })) [] device self.new }
         ensures others { (d : ℕ) → 1 ≤ d → (d == device) ≡ false → reader_of self.new d ≡ reader_of self.old d }

@@ -6,7 +6,7 @@ use crate::reply::Reply;
 use input_types::{Args, DeviceId, DisplayId, Limit, Moment};
 use window_snapshot::Snapshot;
 
-/// One call of the dispatcher. `now` is the moment of the call, and advances the clock if it is later.
+/// One call of the dispatcher. `now` is the time of the call, and advances the clock if it is later.
 #[derive(Drop)]
 pub enum Call {
     /// Opens a channel, whose messages must be finished within the limit.
@@ -62,7 +62,7 @@ pub enum Call {
 }
 
 impl Call {
-    /// The moment that it carries, 0 if it has none.
+    /// The time that it carries, 0 if it has none.
     pub fn moment(&self) -> Moment
         ensures { result ≡ moment_of self.now }
     {

@@ -13,8 +13,8 @@
 //! Finish { now: 2000, channel: 2, seq: 1 }                              Done
 //! ```
 //!
-//! Each call is one entry of the dispatcher's history, even if it was refused. Moments are microseconds, and the
-//! dispatcher's clock is the latest moment of any call.
+//! Each call is one entry of the dispatcher's history, even if it was refused. Times are microseconds, and the
+//! dispatcher's clock is the latest time of any call.
 #![tactic(auto)]
 
 mod call;

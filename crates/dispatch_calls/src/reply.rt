@@ -5,7 +5,7 @@ use input_types::Message;
 /// `NothingHeld` are refusals: they change only the history and the clock.
 #[derive(Clone, Copy, Debug, PartialEq, Eq)]
 pub enum Reply {
-    /// The channel was opened, with this number; channels are numbered 1, 2, 3 in the order in which they are opened.
+    /// The channel was opened, with this number. Channels are numbered 1, 2, 3 in the order of their opening.
     Opened(u32),
     /// 64 channels were already opened, counting removed ones.
     Full,

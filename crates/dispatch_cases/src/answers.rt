@@ -1,4 +1,4 @@
-//! Answers as they are printed.
+//! Replies as they are printed.
 use dispatch_calls::{Counts, Reply};
 use input_types::Message;
 use std::alloc::{AllocError, Global};

@@ -26,7 +26,7 @@ fn place(n: u64) -> Option<i32> {
     i32::try_from(n).ok()
 }
 
-/// A window that can be touched where it is.
+/// A window that can be touched in its whole frame.
 fn window(alloc: Global, on: [u64; 2], edges: [u64; 4], flags: u64) -> Option<Window> {
     let [left, top, right, bottom] = edges;
     let frame = Rect {
@@ -68,7 +68,7 @@ fn snapshot(alloc: Global, numbers: &[u64]) -> Option<Snapshot> {
     Snapshot::new(windows).ok()
 }
 
-/// The windows from a moment on.
+/// The windows from a time on.
 pub(crate) fn windows(alloc: Global, numbers: &[u64]) -> Option<Call> {
     match numbers {
         [now, rest @ ..] => Some(Call::Windows {
@@ -100,7 +100,7 @@ fn read(line: &[u8]) -> Option<Call> {
     }
 }
 
-/// The args of a message, at its moment.
+/// The args in a message, at its time.
 fn notified(message: &Message) -> Option<Call> {
     let args = match &message.body {
         Body::Motion(motion) => Args::Motion(*motion),

@@ -1,6 +1,6 @@
-//! Calls of the dispatcher as a text, and how they are answered.
+//! Reads calls of the dispatcher as a text, and prints the replies.
 //!
-//! Standard input has one call a line. Each line is printed, followed by its answer:
+//! Standard input has one call a line. Each line is printed, followed by its reply:
 //!
 //! ```text
 //! # a finger on a window                         begins anew, without a call
@@ -12,13 +12,13 @@
 //!                                                1 1000 motion 1 DOWN 0@540,1200
 //! ```
 //!
-//! The numbers of a call stand in the order of its fields, the moment first. A window is its channel, its display,
-//! the four edges of its frame, which is where it can be touched too, and its flags as a number. What devices hand in
-//! is spelled as a message is, without its number; `reset` with a moment and a device is a reset. `displays` starts
-//! over with the displays of the devices 1 to 8.
+//! The numbers of a call stand in the order of its fields, the time first. A window is its channel, its display, the
+//! four edges of its frame, in which it can also be touched, and its flags as a number. What devices hand in is spelled
+//! as a message without its number; `reset` with a time and a device is a reset. `displays` starts over with the
+//! displays of the devices 1 to 8.
 //!
-//! With the words `rounds N` on the command line it reads nothing, and prints how long N rounds of a gesture take: of
-//! one finger over one window, and of ten fingers over five windows and a spy.
+//! With the words `rounds N` on the command line the program reads nothing, and prints how long N rounds of a gesture
+//! take: of one finger over one window, and of ten fingers over five windows and a spy.
 #![tactic(auto)]
 
 mod answers;

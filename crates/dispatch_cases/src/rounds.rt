@@ -19,8 +19,8 @@ const SIX: &[u64] = &[
     540, 0, 1080, 1200, 0, 5, 0, 0, 1200, 540, 2300, 0, 6, 0, 540, 1200, 1080, 2300, 0,
 ];
 
-/// Where a finger is in a round: two of ten fingers on each of five rows, of which the first two are under the spy, and
-/// the last one is on the bar.
+/// Where a finger is in a round: two of ten fingers on each of five rows. The first two are under the spy, and the last
+/// one is on the bar.
 fn at(finger: u8, round: u64) -> Pixel {
     let shift = (round % 1080) as i32;
     let column = i32::from(finger % 2);
@@ -106,7 +106,7 @@ fn receive(dispatcher: &mut Dispatcher, channel: u32) -> Result<Option<u64>, All
     }
 }
 
-/// The owner of a channel receives its next message and is done with it; answers how many messages that were.
+/// The owner of a channel receives its next message and finishes it. Returns how many messages that were.
 fn own(dispatcher: &mut Dispatcher, channel: u32, now: Moment) -> Result<u64, AllocError> {
     match receive(dispatcher, channel)? {
         Some(seq) => {

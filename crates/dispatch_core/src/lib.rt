@@ -12,10 +12,10 @@
 //! 0  Finish { now: 2000, channel: 1, seq: 1 }                      Done
 //! ```
 //!
-//! A [`Core`] is a `Dispatcher` with the list of these entries. It releases no message, so its `stream` of channel 1
-//! is the whole one. All its replies, and everything that can be read of it, follow from the entries
-//! (specs/Recorded): the last reply is the one that the entries before it require, and no rule reads who made a call.
-//! Room for entries, and for what pumps send, can be reserved; then some calls cannot run out of memory.
+//! A [`Core`] is a `Dispatcher` with the list of these entries. It releases no message, so its `stream` of channel 1 is
+//! the whole one. All its replies, and everything that can be read from it, follow from the entries (specs/Recorded):
+//! the last reply is the one that the entries before it require, and no rule reads who made a call. Room for entries,
+//! and for what pumps send, can be reserved; then some calls cannot run out of memory.
 //!
 //! As a machine of the turnstile its history is the same list (specs/Machine).
 #![tactic(auto)]

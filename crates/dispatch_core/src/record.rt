@@ -146,7 +146,7 @@ impl Core {
         self.entries.as_slice()
     }
 
-    /// The clock: the latest moment of any call.
+    /// The clock: the latest time of any call.
     pub fn clock(&self) -> Moment
         ensures { result ≡ clock (history_of self.now.entries) }
     {
@@ -160,7 +160,7 @@ impl Core {
         self.dispatcher.counts(channel)
     }
 
-    /// The first moment at which a channel is due to be reported unresponsive, and the lowest channel that is due then.
+    /// The first time at which a channel is due to be reported unresponsive, and the lowest channel that is due then.
     pub fn first_due(&self) -> Option<(u64, u32)>
         ensures { option_map due_pair result ≡ first_due (effects_of self.now) }
     {

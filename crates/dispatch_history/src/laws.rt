@@ -69,7 +69,7 @@ pub fn held_keys()
 {}
 
 /// Every stream is well-formed by the rule of streams, and that of a live channel says what its window holds. Its
-/// messages are numbered from 1, and their moments never decrease.
+/// messages are numbered from 1, and their times never fall.
 pub fn whole()
     ensures live { WholeLaw }
     ensures each { WellFormedLaw }

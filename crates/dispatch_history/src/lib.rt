@@ -18,10 +18,10 @@
 //! of channel 2 is `DOWN 1@160,400`, `MOVE 1@160,400`. The worked examples in proofs/ check this and more by
 //! computation.
 //!
-//! A history is a list of calls with their replies, newest first; the tail is what came before the last step. Beside
-//! the steps of a history stand their effects: what each dispatched, gave, took and sent. All definitions look back
-//! over these two lists. They read replies and never recompute one, and none reads who made a call. Definitions that
-//! need the display of each device take it as an argument.
+//! A history is a list of calls with their replies, newest first; the tail is what came before the last step. With the
+//! steps of a history go their effects: what each step dispatched, gave, took and sent. All definitions look back over
+//! these two lists. They read replies and never recompute one, and none reads who made a call. Definitions that need
+//! the display of each device take it as an argument.
 #![tactic(auto)]
 
 pub mod laws;

@@ -22,19 +22,19 @@ use Rattle.dispatcher.specs.Dispatching.{Dispatching}
 abbrev pub is_opened : List Effect → ℕ → Bool
 is_opened es c = nat_le 1 c && nat_le c (opened (past_of es))
 
--- how many of the first messages of a channel were let go
+-- how many of the first messages of a channel were released
 abbrev pub gone : Dispatching → ℕ → ℕ
 gone d c = (channel_of d.channels c).gone
 
--- how many of the first namings were let go
+-- how many of the first ANRs were released
 abbrev pub anrs_released : Dispatching → ℕ
 anrs_released d = d.channels.anrs.gone
 
--- the messages of a channel that was opened, but for those that were let go
+-- the messages of a channel that was opened, but for those that were released
 abbrev pub messages_of : List Effect → Dispatching → ℕ → Option (List Message)
 messages_of es d c = if is_opened es c then Some (drop (gone d c) (reverse (stream es c))) else None
 
--- a channel was opened with this number, and has messages that were not let go
+-- a channel was opened with this number, and has messages that were not released
 abbrev pub has_messages : List Effect → Dispatching → ℕ → Bool
 has_messages es d c = is_opened es c && nat_lt (gone d c) (length (stream es c))
 

@@ -1,4 +1,4 @@
--- What naming windows unresponsive makes of the tables.
+-- What reporting windows unresponsive makes of the tables.
 use Rattle.std.specs.Prelude.{◌≡◌, ℕ, List, None}
 use Rattle.input_types.specs.declared.key.KeyMsg.{KeyMsg}
 use Rattle.route_split.specs.declared.mark.Mark.TheVariants.{Mute}

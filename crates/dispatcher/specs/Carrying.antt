@@ -27,7 +27,7 @@ use Rattle.dispatcher.specs.Tables.{LetsNoneGo}
 abbrev pub TakesMark : Mark → (place : ℕ) → (old new : List Touches) → Type 0
 TakesMark mark place old new = ChangesAll old new (gives mark) (takes (taking old mark)) place (pilfers (taking old mark))
 
--- Channels of a mask are told what the rules say of a step, in whichever scene it is the step of this round, and no other is sent
+-- Channels of a mask are sent what the rules say of a step, in whichever scene it is the step of this round, and no other is sent
 -- anything.
 pub record SendsRound (round : Round) (touches : List Touches) (covers : CoverTable) (origins : List Pixel) (clock : ℕ) (old new : Table) : Type 0 where
   pub changed : ℕ
@@ -68,7 +68,7 @@ pub record CarriesSome (mark : Mark) (keys : List KeyMsg) (lost gained place clo
   pub is : IsOf mark None (target_number old.focus) keys lost gained round
   pub carries : CarriesFrom round place clock old new
 
--- such a round tells nobody anything
+-- such a round sends nobody anything
 pub record IsSilent (mark : Mark) (keys : List KeyMsg) (change : Change) : Type 0 where
   pub takes_none : may_take mark ≡ false
   pub no_keys : keys ≡ []

@@ -53,11 +53,11 @@ with_room n d = record d { queue = queue_with_room n d.queue }
 abbrev pub kept : Dispatching → Kept
 kept d = kept_of d.queue d.shown d.touches d.covers d.channels d.focus d.repeat
 
--- it is as after a legal history with these effects, but for messages that were let go, received or not
+-- it is as after a legal history with these effects, but for messages that were released, received or not
 abbrev pub IsAfter : List Effect → Dispatching → Type 0
 IsAfter es d = KeptStandsFor d.displays es (kept d)
 
--- it stands for a legal history with these effects: the same, and of a live channel only messages that were received were let go
+-- it stands for a legal history with these effects: the same, and of a live channel only messages that were received were released
 pub record StandsFor (es : List Effect) (d : Dispatching) : Type 0 where
   pub lawful : Lawful d.displays es
   pub rise : AllRise (past_of es)

@@ -1,4 +1,4 @@
--- Who is told of keys.
+-- Who is sent keys.
 use Rattle.std.specs.Prelude.{ℕ, List, [], Option, Some, None, unwrap_or, if◌then◌else◌}
 use Rattle.input_types.specs.declared.key.KeyMsg.{KeyMsg}
 use Rattle.window_snapshot.specs.Mask.{mask_has}
@@ -34,10 +34,10 @@ abbrev pub if_in : (mask : ℕ) → Option ℕ → Option ℕ
 if_in mask None = None
 if_in mask (Some w) = if mask_has mask w then Some w else None
 
--- what the key target is told where that is another one after the step
+-- what the key target is sent if another one is it after the step
 abbrev pub lost_keys : FocusState → (after : Option ℕ) → Table → List KeyMsg
 lost_keys f after t = cancelled_of (if_lost after (listening f t.live)) t
 
--- what it is told where windows are named
+-- what it is sent if windows are reported
 abbrev pub named_keys : FocusState → (mask : ℕ) → Table → List KeyMsg
 named_keys f mask t = cancelled_of (if_in mask (listening f t.live)) t

@@ -21,8 +21,8 @@ use Rattle.dispatcher.specs.WindowCovers.Covers.{CoverTable}
 use Rattle.dispatcher.specs.Covering.{CoversAre, CoversStep}
 use Rattle.dispatcher.specs.Input.{InputIs, InputGoes}
 
--- what a dispatcher keeps: the clock and the queue, the windows, who holds what and what lies over them, the channels with what the window of each was sent
--- and is not told the end of, the focus, and the last key message
+-- what a dispatcher keeps: the clock and the queue, the windows, who holds what and what lies over them, the channels, each with the pointers and keys
+-- still down in its window's stream, the focus, and the last key message
 pub record Kept : Type 0 where
   pub queue : Queue
   pub shown : Shown

@@ -85,7 +85,7 @@ PointersFirst =
     → Lawful displays es → live (past_of es) w ≡ false → ((d : ℕ) → pointers_of input d ≡ [])
     → PointersAre displays es w input
 
--- So does all that is kept of what a window was sent and is not told the end of.
+-- So does everything that is kept of the pointers and keys still down in a window's stream.
 abbrev pub InputLaw : Type 0
 InputLaw =
     (displays : List ℕ) (call : Call) (answer : Reply) (es : List Effect) (w : ℕ) (old new : Tracked)
@@ -102,7 +102,7 @@ InputFirst =
     → Lawful displays es → live (past_of es) w ≡ false → ((d : ℕ) → pointers_of input d ≡ []) → input.keys ≡ []
     → InputIs displays es w input
 
--- A step that tells a window nothing leaves it as it is.
+-- A step that sends a window nothing leaves it as it is.
 abbrev pub InputQuiet : Type 0
 InputQuiet =
     (displays : List ℕ) (call : Call) (answer : Reply) (es : List Effect) (w : ℕ) (input : Tracked)
@@ -110,7 +110,7 @@ InputQuiet =
     → said_at displays call answer es w ≡ []
     → InputGoes displays call answer es w input input
 
--- A step that leaves the focus and who is live, and tells nobody anything, leaves what is kept of keys as it is.
+-- A step that leaves the focus and who is live, and sends nobody anything, leaves what is kept of keys as it is.
 abbrev pub KeyingQuiet : Type 0
 KeyingQuiet =
     (displays : List ℕ) (call : Call) (answer : Reply) (es : List Effect) (focus : FocusState) (repeat : Option Sent)
@@ -146,7 +146,7 @@ RefusedLaw =
 abbrev pub KnowsFirst : Type 0
 KnowsFirst = (displays : List ℕ) (k : Kept) → IsFirst k → KeptStandsFor displays [] k
 
--- What a step tells a window, in display pixels and tracked body by body, is what it makes of what the window was sent.
+-- What a step sends a window, in display pixels and tracked body by body, is what it makes of what the window was sent.
 abbrev pub TracksAllLaw : Type 0
 TracksAllLaw =
     (displays : List ℕ) (call : Call) (answer : Reply) (es : List Effect) (w : ℕ) (old new : Tracked)

@@ -18,7 +18,7 @@ pub record IsWelcome (number : ℕ) (t : Table) : Type 0 where
   pub track_room : 1 ≤ (input_of t number).spare
   pub pointers_are : (d : ℕ) → pointers_of (input_of t number) d ≡ []
 
--- the focus is found anew, and the round is carried out in which a channel is told that it has it, where it gains it
+-- the focus is found anew, and the round is carried out in which a channel is sent that it has it, where it gains it
 pub record Welcomes (number place clock : ℕ) (old new : Routing) : Type 0 where
   pub round : Round
   pub gained : ℕ

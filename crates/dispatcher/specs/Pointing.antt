@@ -37,11 +37,11 @@ pub record TouchesGo (displays : List ℕ) (call : Call) (answer : Reply) (es : 
   pub is_mark : IsMark old by (mark_at displays call answer es)
   pub changes : ChangesAll old new (gives by) (takes (taking old by)) place (pilfers (taking old by))
 
--- what a window was sent and is not told the end of are the pointers that it holds, at their last places
+-- the pointers still down in a window's stream are those that it holds, at their last positions
 abbrev pub PointersAre : List ℕ → List Effect → ℕ → Tracked → Type 0
 PointersAre displays es w input = (d : ℕ) → 1 ≤ d → d ≤ 8 → pointers_of input d ≡ listing ((scene displays es).holds w d) (last es d)
 
--- what a window was sent goes one step on in its pointers: what the step tells it of each device is tracked
+-- what a window was sent goes one step on in its pointers: what the step sends it for each device is tracked
 abbrev pub PointersGo : List ℕ → Call → Reply → List Effect → ℕ → (old new : Tracked) → Type 0
 PointersGo displays call answer es w old new =
     (d : ℕ) → 1 ≤ d → d ≤ 8

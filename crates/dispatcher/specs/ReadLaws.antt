@@ -49,7 +49,7 @@ RoomLaw =
     → but_for_room u ≡ but_for_room t
     → KeptStandsFor displays es later
 
--- So do those of which messages of a channel are let go that may be, and what is left of it is the rest of its stream.
+-- So do those of which messages of a channel are released that may be, and what is left of it is the rest of its stream.
 abbrev pub ReleaseLaw : Type 0
 ReleaseLaw =
     (displays : List ℕ) (es : List Effect) (k later : Kept) (t u : Table) (c : ℕ) (s : ChannelState)
@@ -64,7 +64,7 @@ ReleaseLaw =
     → u ≡ with_channel c s t
     → KeptStandsFor displays es later × ((channel_of u c).messages ≡ drop s.gone (reverse (stream es c)))
 
--- So do those of which the namings are let go.
+-- So do those of which the ANRs are released.
 abbrev pub AnrsGoLaw : Type 0
 AnrsGoLaw =
     (displays : List ℕ) (es : List Effect) (k later : Kept) (t u : Table)

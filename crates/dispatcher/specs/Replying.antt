@@ -24,7 +24,7 @@ use Rattle.dispatcher.specs.Knows.{Kept}
 abbrev pub late_by : Delivery → ℕ → List ℕ
 late_by k at = filter (λ c. is_due (due_kept k c) at) (channels k.count)
 
--- where the owner of a live channel is to be handed its next message, that one was not let go; of any other call nothing is asked
+-- where the owner of a live channel is to be handed its next message, that one was not released; of any other call nothing is asked
 abbrev pub MayHand : List Effect → Kept → Call → Type 0
 MayHand es k (Receive c) = live (past_of es) c ≡ true → (k.delivery.channel c).gone ≤ received (past_of es) c
 MayHand es k call = Unit {0}

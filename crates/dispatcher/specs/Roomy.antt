@@ -1,4 +1,4 @@
--- Room for what pumps tell.
+-- Room for what pumps send.
 use Rattle.std.specs.Prelude.{◌≡◌, ◌≤◌, ◌<◌, ◌+◌, ◌*◌, ◌^◌, ℕ, true, false, List, length, map}
 use Rattle.input_types.specs.declared.key.KeyMsg.{KeyMsg}
 use Rattle.input_types.specs.declared.message.Body.TheVariants.{Key}
@@ -14,7 +14,7 @@ use Rattle.dispatcher.specs.DispatchRound.Saying.{Spends}
 use Rattle.dispatcher.specs.declared.tables.Routing.{Routing}
 use Rattle.dispatcher.specs.declared.tables.Tables.{Tables}
 
--- A channel has room for what n pumps tell it: for 131 messages each, of which 128 may be cancels of pointers, and for one for each key that
+-- A channel has room for what n pumps send it: for 131 messages each, of which 128 may be cancels of pointers, and for one for each key that
 -- is down in its window. So has what is kept of the window; and a list has room for those keys when they are cancelled.
 pub record HasRoomFor (n list : ℕ) (s : ChannelState) (i : Tracked) : Type 0 where
   pub room : 131 * n + length i.keys ≤ s.spare
@@ -42,7 +42,7 @@ pub record TakesRoom (outgoing : ℕ) (r : Round) (old new : Table) : Type 0 whe
   pub left : (w : ℕ) → 1 ≤ w → mask_has outgoing w ≡ false → IsLeft old new w
   pub live_is : new.live ≡ old.live
 
--- there is room for what n pumps tell, and in the list for the keys that they cancel
+-- there is room for what n pumps send, and in the list for the keys that they cancel
 abbrev pub HasPumpRoom : (n : ℕ) → Routing → Type 0
 HasPumpRoom n r = IsRoomy n r.cancelled r.channels
 

@@ -1,4 +1,4 @@
--- What is proved of steps that tell windows: what a round tells is what the step tells.
+-- What is proved of steps that send windows something: what a round sends is what the step sends.
 use Rattle.std.specs.Prelude.{◌≡◌, [], bit_and, false, ◌≤◌, ℕ, Bool, true, ◌&&◌, List, map, slice_get, Option, Some, None}
 use Rattle.std.specs.Option.{option_copied}
 use Rattle.input_types.specs.declared.key.KeyArgs.{KeyArgs}
@@ -44,7 +44,7 @@ use Rattle.dispatcher.specs.Staying.{delivery_of}
 use Rattle.dispatcher.specs.Sending.{parted_in, is_sending, sent_target, AreKeys, SendsFocus, Refocuses, OpensWith, GoesRound, GoesRemoved}
 use Rattle.dispatcher.specs.Tracking.{bodies_at}
 
--- What a step says to a window that is live after it is what it tells it, with the places counted from the origin of the window.
+-- What a step says to a window that is live after it is what it sends it, with the places counted from the origin of the window.
 abbrev pub SaidLaw : Type 0
 SaidLaw =
     (displays : List ℕ) (call : Call) (answer : Reply) (es : List Effect) (w : ℕ)

@@ -1,4 +1,4 @@
--- Steps that tell windows, by what is kept.
+-- Steps that send windows something, by what is kept.
 use Rattle.std.specs.Prelude.{◌≡◌, ◌≤◌, ◌<◌, ◌+◌, ℕ, suc, Bool, true, false, not, ◌&&◌, List, [], slice_set, Option, Some, None, if◌then◌else◌}
 use Rattle.input_types.specs.declared.key.KeyMsg.{KeyMsg}
 use Rattle.window_snapshot.specs.declared.window.Window.{Window}
@@ -50,7 +50,7 @@ FocusGoes (Windows now shown) windows alive old new = Refocuses windows alive ol
 FocusGoes (Remove now c) windows alive old new = Refocuses windows alive old new
 FocusGoes call windows alive old new = new ≡ old
 
--- what the key target is told of keys at a step with this call and reply, after which the focus is this
+-- what the key target is sent for keys at a step with this call and reply, after which the focus is this
 abbrev pub sent_target : Call → Reply → Kept → FocusState → (target : ℕ) → List KeyMsg
 sent_target call answer k later t =
     target_sent call answer (args_of call answer k.queue.waiting) t (mask_has k.delivery.able t) (is_at (target_of later) t)
@@ -74,7 +74,7 @@ SendsFocus lost gained alive old new =
     × (mask_has gained w ≡ (is_focused (focus_of new) w && not (is_focused (focus_of old) w)))
 
 -- What is kept goes one step on in all but the channels: queue, windows, touches by the mark of a round, what lies over windows by its gift, the focus, whose change the round
--- tells, and the last key message, which the round tells the key target. So many channels are live after it.
+-- sends, and the last key message, which the round sends the key target. So many channels are live after it.
 pub record GoesRound (call : Call) (answer : Reply) (r : Round) (alive : ℕ) (k later : Kept) : Type 0 where
   pub queue : QueueGoes call answer k.queue later.queue
   pub shown : ShownGoes call k.shown later.shown
@@ -85,7 +85,7 @@ pub record GoesRound (call : Call) (answer : Reply) (r : Round) (alive : ℕ) (k
   pub keys : AreKeys (target_of k.focus) alive (sent_target call answer k later.focus) r.target r.keys.now
   pub repeat_is : later.repeat ≡ repeat_then (target_of k.focus) alive later.queue.clock r.keys.now k.repeat
 
--- Steps that may tell windows something, but for those that open a channel.
+-- Steps that may send windows something, but for those that open a channel.
 abbrev pub is_sending : Call → Reply → Bool
 is_sending (Windows now shown) Done = true
 is_sending (FocusOn now display channel) Done = true

@@ -26,7 +26,7 @@ kept q r = kept_of q r.shown r.touches r.covers r.channels r.focus r.repeat
 abbrev pub TablesStandFor : List Effect → Tables → Type 0
 TablesStandFor es t = KeptStandsFor t.routing.displays es (kept t.queueing t.routing)
 
--- of each channel as many messages were let go as before, and as many namings
+-- of each channel as many messages were released as before, and as many ANRs
 pub record LetsNoneGo (old new : Table) : Type 0 where
   pub of_channels : (c : ℕ) → 1 ≤ c → (channel_of new c).gone ≡ (channel_of old c).gone
   pub of_anrs : new.anrs.gone ≡ old.anrs.gone
@@ -53,7 +53,7 @@ pub record Pumps (first : Option Args) (answer : Reply) (place clock : ℕ) (old
   pub gone_are : LetsNoneGo old.channels new.channels
 
 -- The owner of a channel has its next message, where there is one: the tables of routing went one step on with what is to be
--- answered, whether that message was let go or not.
+-- answered, whether that message was released or not.
 pub record HandsOn (channel : ℕ) (old new : Routing) : Type 0 where
   pub after :
       (es : List Effect) (answer : Reply) (queue later : Queue)

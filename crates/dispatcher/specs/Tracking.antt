@@ -1,4 +1,4 @@
--- What a step tells a window, in display pixels.
+-- What a step sends a window, in display pixels.
 use Rattle.std.specs.Prelude.{ℕ, List, ◌∷◌, ◌++◌, map}
 use Rattle.input_types.specs.declared.message.Body.{Body}
 use Rattle.input_types.specs.declared.message.Body.TheVariants.{Motion as MotionBody, Key}
@@ -15,11 +15,11 @@ use Rattle.dispatcher.specs.KeyTables.Held.{key_messages}
 use Rattle.dispatcher.specs.DispatchRound.Bodies.{motions_of}
 use Rattle.dispatcher.specs.Pointing.{mark_at, step_at}
 
--- the motions that a step tells a window, device by device, in display pixels and without what lies over the window
+-- the motions that a step sends a window, device by device, in display pixels and without what lies over the window
 abbrev pub motions_at : List ℕ → Call → Reply → List Effect → ℕ → List Motion
 motions_at displays call answer es w = motions_of (scene displays es) (step_at call answer es) w
 
--- all that it tells a window that is live after it, in display pixels: motions, then keys, then the focus
+-- all that it sends a window that is live after it, in display pixels: motions, then keys, then the focus
 abbrev pub bodies_at : List ℕ → Call → Reply → List Effect → ℕ → List Body
 bodies_at displays call answer es w =
     map MotionBody (under_all (covered (mark_at displays call answer es ∷ marks es) w) (motions_at displays call answer es w))

@@ -1,4 +1,4 @@
-//! Windows that do not answer.
+//! Windows that do not respond.
 ghost use Rattle.std.specs.Prelude.{◌≡◌, ◌≤◌, ℕ, false, IfOk, OnOk, OnErr, IsOk, vec_capacity};
 ghost use Rattle.dispatch_calls.specs.declared.call.Call.TheVariants.{Tick};
 ghost use Rattle.dispatcher.specs.DispatchChannels.Table.{due_moment};
@@ -18,8 +18,8 @@ use route_split::Mark;
 use std::alloc::AllocError;
 use window_snapshot::mask_has;
 
-/// Names the windows that left a message unfinished for too long, and answers their mask. All that they hold is taken
-/// from them.
+/// Reports the windows that left a message unfinished for too long, and returns their mask. Everything that they hold
+/// is taken from them.
 pub(crate) fn tick(routing: &mut Routing, place: u64, clock: Moment) -> Result<Reply, AllocError>
     requires { IsTimely clock routing.old.channels }
     ensures ok { IfOk result (λ answer. Goes (λ now. Tick now) answer place clock routing.old routing.new) }
@@ -34,7 +34,7 @@ pub(crate) fn tick(routing: &mut Routing, place: u64, clock: Moment) -> Result<R
     Ok(Reply::Named(mask))
 }
 
-/// The windows of a mask are named. Where the key target is one of them, its keys are cancelled.
+/// Reports the windows of a mask. If the key target is one of them, its keys are cancelled.
 fn name_some(routing: &mut Routing, mask: u64, place: u64, clock: Moment) -> Result<(), AllocError>
     requires { IsTimely clock routing.old.channels }
     ensures ok { OnOk result
@@ -47,7 +47,7 @@ fn name_some(routing: &mut Routing, mask: u64, place: u64, clock: Moment) -> Res
     named
 }
 
-/// The same with a list for the keys that are cancelled.
+/// Does the same with a list for the cancelled keys.
 fn send_names(
     routing: &mut Routing,
     keys: &mut Vec<KeyMsg>,
@@ -70,7 +70,7 @@ fn send_names(
     }
 }
 
-/// The windows of a mask are named, and the key target is sent keys.
+/// Reports the windows of a mask, and sends the key target these keys.
 fn name(
     routing: &mut Routing,
     mask: u64,

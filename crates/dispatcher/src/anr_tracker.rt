@@ -11,10 +11,10 @@
 //! clear 2                nobody is due
 //! ```
 //!
-//! At equal moments the lowest channel comes first. The map is a fixed table, with a mask of the channels that are
-//! due and a moment before which none is. The search runs only when the first one is asked for, and only over those
-//! channels. It mostly stops at the first of them, since channels that were sent something at one step are due at one
-//! moment.
+//! At equal times the lowest channel comes first. The map is a fixed table, with a mask of the channels that have a due
+//! time and a time before which none is due. It searches only when the first one is asked for, and only over those
+//! channels. The search usually stops at the first of them, since channels that were sent something by one step are due
+//! at one time.
 mod tracker;
 
 pub use tracker::Tracker;

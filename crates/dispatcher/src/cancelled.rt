@@ -1,4 +1,4 @@
-//! The list into which keys are put that are cancelled.
+//! The list of cancelled keys.
 ghost use Rattle.std.specs.Prelude.{◌≡◌, ◌≤◌, OnOk, vec_capacity};
 
 use input_types::KeyMsg;
@@ -6,7 +6,7 @@ use std::alloc::{AllocError, Global};
 use std::marker::Model;
 use std::mem::replace;
 
-/// A list that serves each step anew and keeps its room. Contracts see for how many keys that is.
+/// A list that each step uses anew and that keeps its room. Contracts see how many keys it has room for.
 #[derive(Drop)]
 pub(crate) struct Cancelled {
     keys: Vec<KeyMsg>,
@@ -36,7 +36,7 @@ impl Cancelled {
         replace(&mut self.keys, Vec::new(alloc))
     }
 
-    /// Makes room for so many keys. Without memory nothing changes.
+    /// Makes room for this many keys. If memory runs out, nothing changes.
     pub(crate) fn reserve(&mut self, keys: usize) -> Result<(), AllocError>
         ensures ok { OnOk result (keys ≤ self.new) }
         ensures more { self.old ≤ self.new }
@@ -45,7 +45,7 @@ impl Cancelled {
         self.keys.reserve(keys)
     }
 
-    /// Takes it back.
+    /// Takes the list back.
     pub(crate) fn keep(&mut self, keys: Vec<KeyMsg>)
         ensures { self.new ≡ vec_capacity keys }
     {

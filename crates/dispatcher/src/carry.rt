@@ -19,7 +19,7 @@ use input_types::{KeyMsg, Moment};
 use route_split::{Mark, Touches};
 use std::alloc::AllocError;
 
-/// The windows that a round gives a pointer have what lies over them there, before the tables of touches change by it.
+/// Records what lies over the windows that a round gives a pointer, before the round changes the tables of touches.
 #[inline(always)]
 fn give(covers: &mut Covers, round: &Round, touches: &Touches)
     ensures { CoversGo round.now.gift touches.now covers.old covers.new }
@@ -60,7 +60,7 @@ pub(crate) fn carry_out(
     remember(&mut routing.repeat, round.target, round.keys, clock);
 }
 
-/// Room is made for a round, and it is carried out. Without memory nothing changes but the room that channels have.
+/// Makes room for a round and carries it out. If memory runs out, only the room of channels changes.
 pub(crate) fn send(
     routing: &mut Routing,
     round: &Round,
@@ -82,8 +82,8 @@ pub(crate) fn send(
     Ok(())
 }
 
-/// The same of a light round, which gives and takes no pointer. Without memory nothing changes but the room that
-/// channels have. It is inlined, so that only what there is of the round is looked at.
+/// Does the same for a light round, which gives and takes no pointer. If memory runs out, only the room of channels
+/// changes. It is inlined, so that only the parts that the round has are looked at.
 #[inline(always)]
 pub(crate) fn send_lightly(
     routing: &mut Routing,
@@ -116,7 +116,7 @@ pub(crate) fn send_lightly(
     Ok(())
 }
 
-/// The key target is sent one key message.
+/// Sends the key target one key message.
 pub(crate) fn send_key(
     routing: &mut Routing,
     message: KeyMsg,
@@ -144,8 +144,7 @@ pub(crate) fn send_key(
     send_lightly(routing, &round, place, clock)
 }
 
-/// The key target is sent keys, and windows are sent changes of the focus, while pointers change
-/// hands by a mark.
+/// Sends the key target keys, and windows the changes of the focus, while pointers change hands by a mark.
 pub(crate) fn send_still(
     routing: &mut Routing,
     mark: Mark,
@@ -178,7 +177,7 @@ pub(crate) fn send_still(
     send(routing, &round, place, clock)
 }
 
-/// A change of the focus that is none.
+/// A change that leaves the focus as it is.
 pub(crate) fn no_change(routing: &Routing) -> Change
     ensures { (result.lost ≡ 0) × (result.gained ≡ 0) }
 {

@@ -6,7 +6,7 @@
 //!
 //! ```text
 //! limit       5000000
-//! gone        1             the DOWN was received, and may be let go
+//! gone        1             the DOWN was received, and may be released
 //! messages    2: MOVE
 //! published   2
 //! received    1

@@ -42,9 +42,10 @@ use window_snapshot::mask_has;
 /// Routes args to windows, and answers each call as the calls before it say. It keeps what the next answers need, and
 /// not its history.
 ///
-/// Contracts see the displays of the devices, and what is kept, table by table. What is kept stands for a history:
-/// each call that is answered makes it stand for the same history with one step more. Whoever reads what is sent ahead
-/// of the owners may let it go; then what is kept is only as after that history, and no message is handed out by it.
+/// Contracts see the displays of the devices, and what is kept, table by table. What is kept stands for a history: each
+/// answered call makes it stand for the same history with one step more. A reader ahead of the owners may drain and
+/// release what is sent. What is kept then matches that history except for released messages, and no message is handed
+/// out from it.
 #[derive(Drop)]
 pub struct Dispatcher {
     tables: Tables,
@@ -84,15 +85,15 @@ impl Dispatcher {
         self.tables.routing.channels.opened()
     }
 
-    /// How far a channel has come; None exactly where none was opened with this number.
+    /// How far a channel got; None exactly if no channel was opened with this number.
     pub fn counts(&self, channel: u32) -> Option<Counts>
         ensures { (es : List Effect) → IsAfter es self.now → result ≡ counts es channel }
     {
         self.tables.routing.channels.counts(channel)
     }
 
-    /// The messages of a channel, but for those that were let go; None exactly where none was opened with this
-    /// number. Of a live channel only messages that were received were let go.
+    /// The messages of a channel that were not released; None exactly if no channel was opened with this number. Of a
+    /// live channel only received messages were released.
     #[tactic(auto, using(crate::proofs::Made::Releasing::most_gone))]
     pub fn messages(&self, channel: u32) -> Option<&[Message]>
         ensures value { (es : List Effect) → IsAfter es self.now
@@ -107,7 +108,7 @@ impl Dispatcher {
         }
     }
 
-    /// Whether a channel has messages that were not let go.
+    /// Whether a channel has messages that were not released.
     pub fn has_messages(&self, channel: u32) -> bool
         ensures { (es : List Effect) → IsAfter es self.now → result ≡ has_messages es self.now channel }
     {
@@ -117,7 +118,7 @@ impl Dispatcher {
         }
     }
 
-    /// The message that the owner of a channel is handed next, where it is live and has one.
+    /// The next message of the owner of a channel, if the channel is live and has one.
     pub fn next(&self, channel: u32) -> Option<&Message>
         ensures { (es : List Effect) → StandsFor es self.now
             → option_copied result ≡ got (reply_to es (CallView.Receive channel)) }
@@ -129,8 +130,8 @@ impl Dispatcher {
         }
     }
 
-    /// The number and the delivery of the oldest message of a channel that is published and not finished. None where
-    /// there is none, and where no channel was opened with this number.
+    /// The number and the delivery of the oldest published and unfinished message of a channel. None if there is no
+    /// such message, or no channel with this number.
     pub fn oldest(&self, channel: u32) -> Option<(u64, Moment)>
         ensures value { (es : List Effect) → IsAfter es self.now → is_opened es channel ≡ true
             → result ≡ oldest_delivery es channel }
@@ -143,8 +144,8 @@ impl Dispatcher {
         }
     }
 
-    /// When a channel is due to be named: its limit after the delivery of its oldest message that is published and not
-    /// finished; None exactly where it is not able, or has no such message. So this is the tracker of due moments.
+    /// When a channel is due to be reported: its limit after the delivery of its oldest published and unfinished
+    /// message. None exactly if the channel is not able, or has no such message. So this is the tracker of due times.
     pub fn due(&self, channel: u32) -> Option<u64>
         requires { is_channel channel ≡ true }
         ensures { (es : List Effect) → IsAfter es self.now → result ≡ due_moment es channel }
@@ -152,7 +153,7 @@ impl Dispatcher {
         self.tables.routing.channels.due(channel)
     }
 
-    /// The first moment at which a channel is due to be named unresponsive, and the least channel that is due at it.
+    /// The first time at which a channel is due to be reported unresponsive, and the lowest channel that is due then.
     pub fn first_due(&self) -> Option<(u64, u32)>
         ensures { (es : List Effect) → IsAfter es self.now → option_map due_pair result ≡ first_due es }
     {
@@ -166,7 +167,7 @@ impl Dispatcher {
         self.tables.queueing.first().is_some()
     }
 
-    /// When the next repeat of a key is due; None where there is none, and while args wait.
+    /// When the next repeat of a key is due; None if no repeat can become due, or if args wait.
     pub fn repeat_due(&self) -> Option<u64>
         ensures { (es : List Effect) → IsAfter es self.now → result ≡ next_repeat es }
     {
@@ -177,7 +178,7 @@ impl Dispatcher {
         }
     }
 
-    /// The namings so far but for those that were let go, the first one first.
+    /// The ANRs that were not released, oldest first.
     pub fn anrs(&self) -> &[Anr]
         ensures { (es : List Effect) → IsAfter es self.now
             → result.now ≡ drop (anrs_released self.now) (anrs es) }
@@ -195,7 +196,7 @@ impl Dispatcher {
         &self.tables.routing.touches
     }
 
-    /// What lay over each window where it was given pointers, of the windows that hold one: exactly what the rules say.
+    /// What lay over each window when it was given pointers, for the windows that hold one: exactly what the rules say.
     pub fn covers(&self) -> &Covers
         ensures value { result.now ≡ self.now.covers }
         ensures reads { (es : List Effect) → IsAfter es self.now → CoversAre es self.now.covers }
@@ -203,8 +204,8 @@ impl Dispatcher {
         &self.tables.routing.covers
     }
 
-    /// What the window of a channel was sent and is not told the end of; None exactly where no channel was opened
-    /// with this number.
+    /// The pointers and keys still down in the stream of a channel's window; None exactly if no channel was opened with
+    /// this number.
     pub fn input(&self, channel: u32) -> Option<&InputState>
         ensures some { (es : List Effect) → IsAfter es self.now → is_some result ≡ is_opened es channel }
         ensures value { (es : List Effect) → IsAfter es self.now → live (past_of es) channel ≡ true

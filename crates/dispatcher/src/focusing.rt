@@ -1,4 +1,4 @@
-//! What changes who has the focus: a channel that is opened, other windows, and requests.
+//! Calls that change who has the focus: a channel is opened, windows are shown, the focus is requested.
 ghost use Rattle.std.specs.Prelude.{◌≡◌, ◌<◌, ◌≤◌, [], IfOk, OnOk, OnErr, IsOk, vec_capacity};
 ghost use Rattle.dispatch_calls.specs.declared.call.Call.TheVariants.{Open, Windows, FocusOn};
 ghost use Rattle.route_split.specs.Marking.{IsWhole};
@@ -23,7 +23,7 @@ use route_split::Mark;
 use std::alloc::AllocError;
 use window_snapshot::{Snapshot, mask_with};
 
-/// A new channel. Its window has the focus at once where it was requested before, and the windows name it.
+/// Opens a channel. Its window has the focus at once if it was requested before and the windows list it.
 pub(crate) fn open(
     routing: &mut Routing,
     limit: Limit,
@@ -67,7 +67,7 @@ fn welcome(routing: &mut Routing, number: u32, place: u64, clock: Moment)
     carry_out(routing, outgoing, &round, place, clock);
 }
 
-/// The windows are these from now on.
+/// Replaces the windows.
 pub(crate) fn show(
     routing: &mut Routing,
     snapshot: &Snapshot,
@@ -89,7 +89,7 @@ pub(crate) fn show(
     Ok(Reply::Done)
 }
 
-/// The focus of a display is requested for a channel, or for none.
+/// Requests the focus of a display for a channel, or for none.
 pub(crate) fn request(
     routing: &mut Routing,
     display: DisplayId,
@@ -105,15 +105,15 @@ pub(crate) fn request(
 {
     let mut focus = routing.focus;
     let change = focus.request(display, channel);
-    // Read for its clause alone: a display has one of the numbers 0 to 3, which contracts do not see of the type.
+    // Read only for its clause: a display has one of the numbers 0 to 3, which contracts cannot see from the type.
     let _number = display.get();
     refocus(routing, Mark::NoOp, &change, place, clock)?;
     routing.focus = focus;
     Ok(Reply::Done)
 }
 
-/// Sends the key target the cancels of its keys, where it is not the key target any more, and windows are sent
-/// that they lost the focus or have it now.
+/// Sends the key target the cancels of its keys, if it is no longer the key target, and sends windows that they lost
+/// the focus or have it now.
 fn refocus(
     routing: &mut Routing,
     mark: Mark,
@@ -135,7 +135,7 @@ fn refocus(
     outgoing
 }
 
-/// The same with a list for the keys that are cancelled.
+/// Does the same with a list for the cancelled keys.
 fn send_change(
     routing: &mut Routing,
     keys: &mut Vec<KeyMsg>,

@@ -1,9 +1,8 @@
-//! The args that devices hand in, before the dispatcher takes them: which of them may come, by what is down on their
-//! device, and those that wait, in the order in which they came.
+//! The args that devices hand in, before the dispatcher dispatches them: which of them may come, by what is down on
+//! their device, and those that wait, in the order in which they came.
 //!
-//! Of each of eight devices [`DevicesDown`] keeps what is down: pointers by their ids, and keys by their scan codes.
-//! Pointer 0 is down on device 1, and its volume up key, scan code 115. The next args are planned first, and taken
-//! then:
+//! [`DevicesDown`] keeps what is down on each of eight devices: pointers by their ids, and keys by their scan codes.
+//! Pointer 0 is down on device 1, and its volume up key, scan code 115. Args are planned first, and applied then:
 //!
 //! ```text
 //! POINTER_DOWN:1 0, 1    Pointers {0, 1}
@@ -12,9 +11,9 @@
 //! reset                  Nothing is down
 //! ```
 //!
-//! [`DevicesDown::plan`] answers what args change, or what is down where they may not come by the rule of devices, and
-//! changes nothing. [`DevicesDown::apply`] makes the change. Neither takes memory: of each device a bit is kept for
-//! each scan code, from the start.
+//! [`DevicesDown::plan`] returns what args change, or, if the rule of devices does not allow them, what is down; it
+//! changes nothing. [`DevicesDown::apply`] makes the change. Neither takes memory: each device has a bit for each scan
+//! code from the start.
 //!
 //! Args that came wait in an [`Inbound`]. A finger goes down, moves and goes up before the dispatcher looks:
 //!
@@ -26,9 +25,9 @@
 //! pop                    DOWN
 //! ```
 //!
-//! Room is reserved first and used then, so that whoever changes several things at once can make sure of all memory
-//! before the first change. The places of what was taken serve again: a queue that never holds more than it once did
-//! takes no further memory.
+//! Room is reserved first and used then, so a caller that changes several things at once can take all memory before the
+//! first change. The room of removed args is used again: a queue that never holds more than it once did takes no
+//! further memory.
 mod change;
 mod device;
 mod devices;

@@ -1,4 +1,4 @@
-//! The channel of a window: what it was sent, and how far its owner has come with it.
+//! The channel of a window: what it was sent, and how far its owner got.
 //!
 //! A message is enqueued, then published to the owner, received by it and finished. At most 64 are published and not
 //! finished. Their owner may finish those that it received in any order. With the clock at 0 and then at 1000000:
@@ -15,7 +15,7 @@
 //! finish 1                every message is finished
 //! ```
 //!
-//! A message is kept until it is let go; of one that was received only its number and its delivery are needed then,
+//! A message is kept until it is released. Of a received message only its number and its delivery are needed then,
 //! until it is finished.
 mod channel;
 mod kept;

@@ -18,7 +18,7 @@ use route_split::Mark;
 use std::alloc::AllocError;
 use window_snapshot::mask_has;
 
-/// The key target, where it is live.
+/// The key target, if it is live.
 pub(crate) fn listening(routing: &Routing) -> Option<u32>
     ensures value { result ≡ listening routing.now.focus routing.now.channels.live }
     ensures opened { IfSome result (λ t. IsOpened routing.now.channels t) }
@@ -32,7 +32,7 @@ pub(crate) fn listening(routing: &Routing) -> Option<u32>
     }
 }
 
-/// A key is dispatched.
+/// Dispatches a key.
 pub(crate) fn route_key(
     routing: &mut Routing,
     key: &KeyArgs,
@@ -54,7 +54,7 @@ pub(crate) fn route_key(
     }
 }
 
-/// A reset is dispatched: all that is down on the device is taken from all windows.
+/// Dispatches a reset: takes everything that is down on the device from all windows.
 pub(crate) fn route_reset(
     routing: &mut Routing,
     device: DeviceId,
@@ -72,7 +72,7 @@ pub(crate) fn route_reset(
     outgoing
 }
 
-/// The same with a list for the keys that are cancelled.
+/// Does the same with a list for the cancelled keys.
 fn send_reset(
     routing: &mut Routing,
     keys: &mut Vec<KeyMsg>,
@@ -109,7 +109,7 @@ fn is_due(due: Option<u64>, clock: Moment) -> bool
     }
 }
 
-/// Nothing waits: a key that is held is repeated, where that is due. Answers whether it was.
+/// Repeats a held key, if that is due. No args wait. Returns whether it was due.
 pub(crate) fn repeat(routing: &mut Routing, place: u64, clock: Moment) -> Result<bool, AllocError>
     requires { IsTimely clock routing.old.channels }
     ensures ok { IfOk result

@@ -9,16 +9,16 @@
 //! the key goes up                    up
 //! a reset of its device              up canceled
 //! the focus goes to window 2         up canceled, and then that it lost the focus
-//! a tick names window 1              up canceled
+//! a tick reports window 1            up canceled
 //! the windows are shown again        nothing
 //! ```
 //!
-//! and no other window any key message, whatever the step. After a repeat, it is kept with its clock; after an up,
-//! nothing is.
+//! and no step sends any other window a key message. After a repeat, the dispatcher keeps the repeat with its clock;
+//! after an up, it keeps no key message.
 //!
 //! [`laws`] says this for each step of each legal history: what is kept stands for the effects of the history
-//! (specs/), and each step keeps it so. The functions here are the code that the laws are about; the rest of it is in
-//! the crates of the focus, of repeats and of cancels.
+//! (specs/), and each step preserves that. The laws are about the functions here, and about the code of the focus, of
+//! repeats and of cancels.
 mod focus;
 mod key_sent;
 pub mod laws;

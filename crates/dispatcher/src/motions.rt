@@ -20,7 +20,7 @@ use route_split::{Mark, watchers};
 use std::alloc::AllocError;
 use window_snapshot::{Window, mask_has};
 
-/// A motion is dispatched.
+/// Dispatches a motion.
 pub(crate) fn route_motion(
     routing: &mut Routing,
     motion: &Motion,
@@ -54,7 +54,7 @@ pub(crate) fn route_motion(
     send(routing, &round, place, clock)
 }
 
-/// A Move is dispatched, while no window is slippery: pointers only move with it, and none changes hands.
+/// Dispatches a Move while no window is slippery: pointers only move, and none changes hands.
 fn route_move(
     routing: &mut Routing,
     motion: &Motion,
@@ -81,7 +81,7 @@ fn route_move(
     send_lightly(routing, &round, place, clock)
 }
 
-/// Whether it is the action with which pointers move.
+/// Whether the action is a Move.
 fn is_move(action: MotionAction) -> bool
     ensures { result ≡ true → action ≡ Move }
 {

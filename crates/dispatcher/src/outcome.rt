@@ -11,8 +11,8 @@ use std::alloc::AllocError;
 pub enum Outcome {
     /// The args wait to be dispatched.
     Taken,
-    /// The args do not fit those of their device that were taken before. `pointers` is the set of ids that are down on
-    /// the device, as bits, and `key_down` says of a key whether its scan code is down.
+    /// The args do not fit those accepted from their device before. `pointers` is the set of ids that are down on the
+    /// device, as bits, and `key_down` says for a key whether its scan code is down.
     Inconsistent { pointers: u32, key_down: bool },
     /// The first args that waited were dispatched.
     Dispatched,
@@ -22,7 +22,7 @@ pub enum Outcome {
     Idle,
     /// The channel was never opened, or was removed.
     Gone,
-    /// The call did what it says.
+    /// The call did what was asked.
     Done,
     /// The message was not received, or is finished already.
     UnknownSeq,

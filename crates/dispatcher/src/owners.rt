@@ -1,4 +1,4 @@
-//! What the owners of channels ask.
+//! The calls of owners of channels.
 ghost use Rattle.std.specs.Prelude.{◌≡◌, ℕ, None, not, if◌then◌else◌};
 ghost use Rattle.focus_resolver.specs.Resolver.{is_at};
 ghost use Rattle.dispatch_calls.specs.declared.call.Call.{Call};
@@ -20,7 +20,7 @@ use key_repeat::Repeat;
 use route_split::Mark;
 use window_snapshot::mask_has;
 
-/// The answer to the owner of a channel that receives its next message, which was not released.
+/// The reply to the owner of a channel that receives its next message, which was not released.
 pub(crate) fn next_reply(routing: &Routing, channel: u32) -> Reply
     ensures { result ≡ (if not (mask_has routing.now.channels.live channel) then Gone
         else got_reply (next_of (channel_of routing.now.channels channel))) }
@@ -44,7 +44,7 @@ pub(crate) fn receive(routing: &mut Routing, channel: u32)
     routing.channels.pass(channel);
 }
 
-/// The owner of a channel is done with a message.
+/// The owner of a channel finishes a message.
 pub(crate) fn finish(routing: &mut Routing, channel: u32, seq: u64, clock: Moment) -> Outcome
     requires { IsTimely clock routing.old.channels }
     ensures { (place : ℕ)
@@ -59,8 +59,8 @@ pub(crate) fn finish(routing: &mut Routing, channel: u32, seq: u64, clock: Momen
     }
 }
 
-/// A channel is closed for good. Nobody is sent anything: the window is not live any more, and no other one loses or
-/// gains anything.
+/// Closes a channel for good. Nobody is sent anything: the window is no longer live, and no other one loses or gains
+/// anything.
 pub(crate) fn remove(routing: &mut Routing, channel: u32, place: u64) -> Outcome
     ensures { (clock : ℕ)
         → Goes (λ now. Call.Remove now channel) (reply_of result) place clock routing.old routing.new }
@@ -79,7 +79,7 @@ pub(crate) fn remove(routing: &mut Routing, channel: u32, place: u64) -> Outcome
     Outcome::Done
 }
 
-/// No key is repeated any more where the key target is the channel.
+/// Stops the repeats if the channel is the key target.
 fn forget_key(repeat: &mut Repeat, target: Option<u32>, channel: u32)
     ensures { repeat.new ≡ (if is_at target channel then None else repeat.old) }
 {

@@ -1,7 +1,7 @@
 //! The pointers of a motion, found by their ids.
 //!
-//! A Move lists pointers 0, 1 and 3, and a window holds {1, 3}. Of the motion [`PointersById`] is made once for all
-//! windows, and what this window is sent is a walk over the ids that it holds:
+//! A Move lists pointers 0, 1 and 3, and a window holds {1, 3}. [`PointersById`] is made once for the motion, for all
+//! windows. What this window is sent is found by walking over the ids that it holds:
 //!
 //! ```text
 //! the motion   0@100,200 1@700,400 3@50,60

@@ -42,7 +42,7 @@ pub(crate) fn dispatch_first(tables: &mut Tables, now: Moment) -> Result<(), All
     Ok(())
 }
 
-/// Hands in args that need not wait, and dispatches them. They change what is planned for them.
+/// Hands in args that need not wait, and dispatches them. They change what was planned for them.
 pub(crate) fn dispatch_at_once(
     tables: &mut Tables,
     now: Moment,
@@ -80,7 +80,7 @@ fn dispatch(routing: &mut Routing, args: &Args, place: u64, clock: Moment) -> Re
     }
 }
 
-/// Repeats a key that is held, if that is due. Nothing waits.
+/// Repeats a held key, if that is due. No args wait.
 pub(crate) fn idle(tables: &mut Tables, now: Moment) -> Result<Outcome, AllocError>
     requires step { MayStep tables.old }
     requires none { slice_get tables.old.queueing.waiting 0 ≡ None }
@@ -103,7 +103,7 @@ pub(crate) fn idle(tables: &mut Tables, now: Moment) -> Result<Outcome, AllocErr
     }
 }
 
-/// The result of a pump if nothing waits.
+/// The result of a pump if no args wait.
 fn idle_outcome(is_due: bool) -> Outcome
     ensures { reply_of result ≡ (if is_due then Repeated else Idle) }
 {

@@ -13,7 +13,7 @@ use input_types::{Args, KeyArgs, Moment};
 use std::alloc::{AllocError, Global};
 use std::marker::Model;
 
-/// The clock is the greatest moment that was handed in.
+/// The clock is the latest time that was handed in.
 #[derive(Drop)]
 pub(crate) struct Queueing {
     clock: Moment,
@@ -21,7 +21,7 @@ pub(crate) struct Queueing {
     place: u64,
     waiting: Inbound,
     down: DevicesDown,
-    /// For how many pumps there is room in the channels.
+    /// How many pumps there is room for in the channels.
     pumps: u32,
 }
 
@@ -91,14 +91,14 @@ impl Queueing {
         Ok(())
     }
 
-    /// The args that are next; None exactly where nothing waits.
+    /// The next args; None exactly if none wait.
     pub(crate) fn first(&self) -> Option<&Args>
         ensures { option_copied result ≡ slice_get self.now.waiting 0 }
     {
         self.waiting.first()
     }
 
-    /// What args change on their device, or what is down on it where they may not come.
+    /// What args change on their device, or what is down on it if they may not come.
     pub(crate) fn plan(&self, args: &Args) -> Result<Change, Inconsistent>
         ensures plan { PlansAt self.now.down args.now result }
         ensures device { (1 ≤ device_of args.now) × (device_of args.now ≤ 8) }
@@ -106,7 +106,7 @@ impl Queueing {
         self.down.plan(args)
     }
 
-    /// Makes room for the next `n` args. Without memory nothing changes.
+    /// Makes room for the next `n` args. If memory runs out, nothing changes.
     pub(crate) fn reserve(&mut self, n: u32) -> Result<(), AllocError>
         ensures ok { OnOk result (self.new ≡ with_args_room n self.old) }
         ensures err { OnErr result (self.new ≡ self.old) }
@@ -115,28 +115,28 @@ impl Queueing {
         self.waiting.reserve(n as usize)
     }
 
-    /// For how many pumps there is room.
+    /// How many pumps there is room for.
     pub(crate) fn pumps(&self) -> u32
         ensures { result ≡ self.now.pumps }
     {
         self.pumps
     }
 
-    /// There is room for so many pumps.
+    /// Records that there is room for this many pumps.
     pub(crate) fn set_pumps(&mut self, pumps: u32)
         ensures { self.new ≡ with_pumps pumps self.old }
     {
         self.pumps = pumps;
     }
 
-    /// There is room for one pump less.
+    /// Records that there is room for one pump less.
     pub(crate) fn spend_pump(&mut self)
         ensures { self.new ≡ with_pumps (self.old.pumps - 1) self.old }
     {
         self.pumps = self.pumps.saturating_sub(1);
     }
 
-    /// One step more, which hands in a moment.
+    /// Counts one more step, which hands in a time.
     pub(crate) fn step(&mut self, now: Moment)
         requires { self.old.place < 2 ^ 64 - 1 }
         ensures { self.new ≡ stepped now self.old }
@@ -154,8 +154,8 @@ impl Queueing {
         self.pumps = 0;
     }
 
-    /// One step more, with which these args are put behind those that wait, and change what is planned for them.
-    /// Without memory nothing changes.
+    /// Counts one more step, queues these args behind those that wait, and changes what was planned for them. If memory
+    /// runs out, nothing changes.
     pub(crate) fn accept(
         &mut self,
         now: Moment,
@@ -178,7 +178,7 @@ impl Queueing {
         Ok(())
     }
 
-    /// One step more, with which the first args that wait are dispatched.
+    /// Counts one more step, which dispatches the first args that wait.
     pub(crate) fn dispatch(&mut self, now: Moment)
         requires { self.old.place < 2 ^ 64 - 1 }
         ensures { self.new ≡ dispatched now self.old }
@@ -188,8 +188,8 @@ impl Queueing {
         self.place += 1;
     }
 
-    /// Two steps more, with which args are taken and dispatched at once. They change what is planned for them, and
-    /// there is room for one pump less.
+    /// Counts two more steps, which accept args and dispatch them at once. The args change what was planned for them,
+    /// and there is room for one pump less.
     pub(crate) fn pass(&mut self, now: Moment, change: &Change)
         requires { self.old.place < 2 ^ 64 - 2 }
         ensures { Passes now change.now self.old self.new }
@@ -201,7 +201,7 @@ impl Queueing {
     }
 }
 
-/// Puts args behind those that wait. Those of a key are written field by field, so that they are not copied on the way.
+/// Queues args behind those that wait. A key is written field by field, so that it is not copied on the way.
 fn put(waiting: &mut Inbound, args: &Args)
     requires { 1 ≤ waiting.old.spare }
     ensures { waiting.new ≡ put_behind args.now waiting.old }

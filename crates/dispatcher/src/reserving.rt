@@ -1,4 +1,4 @@
-//! Room for what pumps tell.
+//! Room for what pumps send.
 ghost use Rattle.std.specs.Prelude.{◌≡◌, ◌≤◌, ◌<◌, ◌+◌, ◌*◌, ◌^◌, true, OnOk, OnErr, IfOk, IsOk};
 ghost use Rattle.window_snapshot.specs.Mask.{mask_has};
 ghost use Rattle.dispatcher.specs.DispatchChannels.Table.{IsOpened, channel_of, input_of};
@@ -10,7 +10,7 @@ use crate::tables::{Routing, Tables};
 use std::alloc::AllocError;
 use window_snapshot::mask_has;
 
-/// How many messages a window with so many keys may be told by `n` pumps, and none of its keys be forgotten.
+/// How many messages `n` pumps may send a window with this many keys, with all of its keys cancelled.
 fn needed(n: u32, keys: usize) -> Result<u32, AllocError>
     ensures value { IfOk result (λ k. k ≡ 131 * n + keys) }
     ensures small { IfOk result (λ k. k < 2 ^ 31) }
@@ -25,7 +25,7 @@ fn needed(n: u32, keys: usize) -> Result<u32, AllocError>
     Ok(count as u32)
 }
 
-/// Makes room in a channel, where it is live, and in the list of cancelled keys.
+/// Makes room in a channel, if it is live, and in the list of cancelled keys.
 fn reserve_one(routing: &mut Routing, n: u32, channel: u32) -> Result<(), AllocError>
     requires { IsOpened routing.old.channels channel }
     ensures same { SameButRoom routing.old routing.new }
@@ -35,7 +35,7 @@ fn reserve_one(routing: &mut Routing, n: u32, channel: u32) -> Result<(), AllocE
     if !mask_has(routing.channels.live(), channel) {
         return Ok(());
     }
-    // Read for its clause alone: what is kept of windows is as long a list as the channels.
+    // Read only for its clause: the list of what is kept of windows is as long as that of the channels.
     let _opened = routing.channels.opened();
     let keys = routing.channels.input(channel).keys().len();
     let count = needed(n, keys)?;
@@ -43,13 +43,13 @@ fn reserve_one(routing: &mut Routing, n: u32, channel: u32) -> Result<(), AllocE
     routing.cancelled.reserve(keys + n as usize)
 }
 
-/// Makes room for what `n` pumps tell. With and without memory nothing changes but the room.
+/// Makes room for what `n` pumps send. Nothing but the room changes, with or without memory.
 pub(crate) fn reserve_pumps(routing: &mut Routing, n: u32) -> Result<(), AllocError>
     ensures same { SameButRoom routing.old routing.new }
     ensures ok { OnOk result (HasPumpRoom n routing.new) }
 {
     let opened = routing.channels.opened();
-    // Read for its clause alone: each live channel was opened.
+    // Read only for its clause: each live channel was opened.
     let _live = routing.channels.live();
     'channels: for place in 0..opened {
         reserve_one(routing, n, place + 1)?;
@@ -57,7 +57,7 @@ pub(crate) fn reserve_pumps(routing: &mut Routing, n: u32) -> Result<(), AllocEr
     Ok(())
 }
 
-/// Makes room for `n` args and `n` pumps. Without memory nothing changes but room that contracts do not see.
+/// Makes room for `n` args and `n` pumps. If memory runs out, only room changes that contracts do not see.
 pub(crate) fn reserve(tables: &mut Tables, n: u32) -> Result<(), AllocError>
     ensures ok { OnOk result (tables.new.queueing ≡ with_room n tables.old.queueing) }
     ensures err { OnErr result (tables.new.queueing ≡ tables.old.queueing) }

@@ -11,13 +11,14 @@ use std::alloc::Global;
 use std::marker::Model;
 use window_snapshot::{Snapshot, Window, is_channel};
 
-/// The last snapshot, and where the window of each of the channels 1 to 64 was when a snapshot named it last.
+/// The last snapshot, and for each of the channels 1 to 64 the origin of its window in the last snapshot that listed
+/// it.
 #[derive(Drop)]
 pub(crate) struct Shown {
     windows: Snapshot,
     /// Whether one of the windows is slippery.
     slips: bool,
-    /// That of channel 1 first.
+    /// The origins, from channel 1 on.
     origins: [Pixel; 64],
 }
 
@@ -65,7 +66,7 @@ impl Shown {
         &self.origins
     }
 
-    /// Shows other windows. The origin of each that they name is where it is now.
+    /// Shows other windows. The windows that they list have their origins from now on.
     pub(crate) fn show(&mut self, windows: Snapshot)
         ensures { Shows windows self.old self.new }
     {
@@ -89,7 +90,7 @@ fn corners() -> [Pixel; 64]
     [Pixel { x: 0, y: 0 }; 64]
 }
 
-/// Moves the origins of the channels whose windows these are; of two windows of one channel the first counts.
+/// Moves the origins of the channels of these windows. If a channel has two windows, the first counts.
 fn move_origins(origins: &mut [Pixel; 64], windows: &[Window])
     ensures { (w : ℕ) → 1 ≤ w → w ≤ 64
         → origin_at origins.new w ≡ origins_from windows.now w (origin_at origins.old w) }

@@ -1,4 +1,4 @@
-//! The windows that stay where they are.
+//! The windows that stay across a snapshot.
 ghost use Rattle.std.specs.Prelude.{◌≡◌, ℕ, ◌&&◌, not, filter};
 ghost use Rattle.window_snapshot.specs.Mask.{is_channel, mask_has};
 ghost use Rattle.window_snapshot.specs.MaskOf.{mask_of};
@@ -7,15 +7,15 @@ ghost use Rattle.routing_rules.specs.Scene.{stays};
 
 use window_snapshot::{Snapshot, Window, mask_has, mask_with};
 
-/// The mask of the windows that stay: the next snapshot names them, and not on another display than the one before did.
-/// A window that the one before did not name stays where the next one names it.
+/// The mask of the windows that stay: the next snapshot lists them, and on the same display as the one before if that
+/// listed them too.
 pub(crate) fn staying(before: &Snapshot, next: &Snapshot) -> u64
     ensures { (c : ℕ) → mask_has result c ≡ (is_channel c && stays before.now next.now c) }
 {
     next.names() & !missed(before.windows(), next)
 }
 
-/// The mask of those windows that the next snapshot does not have where they were.
+/// The mask of those windows that the next snapshot does not list on the same display.
 fn missed(before: &[Window], next: &Snapshot) -> u64
     ensures { result
         ≡ mask_of (filter (λ v. not (is_channel v.channel && is_shown_on next.now v.display v.channel)) before.now) }

@@ -13,13 +13,13 @@ use key_repeat::Repeat;
 use route_split::Touches;
 use std::alloc::{AllocError, Global};
 
-/// What the windows were told of, and all that decides what they are sent next.
+/// What the windows were sent, and everything that decides what they are sent next.
 #[derive(Drop)]
 pub(crate) struct Routing {
     pub(crate) displays: Displays,
     pub(crate) shown: Shown,
     pub(crate) touches: Touches,
-    /// What lay over each window where it was given pointers.
+    /// What lay over each window when it was given pointers.
     pub(crate) covers: Covers,
     pub(crate) channels: Channels,
     pub(crate) focus: Focus,

@@ -1,4 +1,4 @@
-//! What lay over each window where it was given pointers of each device: the marks that go with what it is sent.
+//! What lay over each window when it was given pointers of each device: the marks that go with what it is sent.
 //!
 //! Window 1 of another owner covers the left top quarter of window 2, and lets touches through. Each line is a step of
 //! one device, and what lies over window 2 after it:

@@ -13,13 +13,13 @@ pub enum EmitError {
     /// The line is not of the grammar of stream files, or is missing: the first such one.
     BadLine { line: u64 },
 
-    /// The message of the line may not come after those before it in its section: the first such one.
+    /// The message of the line is not allowed where it stands: the first such one.
     NotWellFormed { line: u64 },
 
     /// No section is of the channel.
     NoChannel,
 
-    /// The motion of the line has a moment that no event of a recording has.
+    /// The time of the line's motion is too late for an event of a recording.
     TooLate { line: u64 },
 
     /// The motion of the line has a pointer with an id that cooking would not give it.

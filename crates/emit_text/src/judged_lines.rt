@@ -9,7 +9,7 @@ use std::marker::Model;
 use stream_judge::{FileError, refusal};
 use stream_text::{StreamLine, StreamLines};
 
-/// Judges a line after those of its section; false if it is a message that may not come.
+/// Judges a line after those of its section; false if its message is not allowed there.
 fn judge(alloc: Global, verifier: &mut Verifier, says: &StreamLine) -> Result<bool, AllocError>
     ensures { IfOk result (λ may. after_line (state_of verifier.old) says.now
         ≡ (if may then Some (state_of verifier.new) else None)) }
@@ -28,7 +28,7 @@ fn judge(alloc: Global, verifier: &mut Verifier, says: &StreamLine) -> Result<bo
     }
 }
 
-/// Reads the lines of a stream file as long as they follow its grammar and each message may come at its place.
+/// Reads the lines of a stream file as long as they follow its grammar and each message is allowed where it stands.
 #[derive(Drop)]
 pub(crate) struct JudgedLines<'a> {
     lines: StreamLines<'a>,
@@ -63,7 +63,7 @@ impl<'a> JudgedLines<'a> {
     }
 
     /// The next line with its number, or None at the end of the file. The file is refused for its first bad line, or
-    /// else for the first message that may not come.
+    /// else for the first message that is not allowed.
     pub(crate) fn next(&mut self) -> Result<Option<(u64, StreamLine)>, FileError>
         ensures { Judges self.old result self.new }
     {

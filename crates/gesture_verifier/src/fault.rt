@@ -19,8 +19,8 @@ pub struct Fault {
     pub focus: bool,
     /// The message that was refused.
     pub message: Message,
-    /// Why it may not come. None only if no line of a stream file can express the message, for example because of
-    /// other flags.
+    /// Why it is not allowed. None only if no line of a stream file can spell the message, for example because of other
+    /// flags.
     pub reason: Option<Reason>,
 }
 

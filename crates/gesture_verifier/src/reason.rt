@@ -1,4 +1,4 @@
-//! Why a message may not come.
+//! Why a message is not allowed.
 ghost use Rattle.std.specs.Prelude.{◌≡◌};
 ghost use Rattle.bits32.specs.Set.{members};
 ghost use Rattle.input_types.specs.Pointers.{IsRising};
@@ -9,10 +9,10 @@ use bits32::Bits32;
 use input_types::{KeyMsg, Motion, MotionAction};
 use pointers_down::{is_same, listed, without};
 
-/// Why a message may not come after those before it: the first reason of its kind that holds.
+/// Why a message is not allowed after those before it: the first reason of its kind that holds.
 #[derive(Clone, Copy, Debug, PartialEq, Eq)]
 pub enum Reason {
-    /// Flags that a motion cannot have: canceled on another action than `PointerUp`, a mark on an `Outside`, or a flag
+    /// Flags that a motion cannot have: canceled on an action other than `PointerUp`, a mark on an `Outside`, or a flag
     /// that no rule names.
     Flags,
     /// A `Down` while pointers are down, or a `PointerDown` of a pointer that is down.
@@ -61,7 +61,7 @@ fn is_down(held: Bits32, id: Option<u8>) -> bool
     }
 }
 
-/// Why a motion may not come if `held` are down on its device.
+/// Why a motion is not allowed if `held` are down on its device.
 pub(crate) fn motion_reason(held: Bits32, motion: &Motion) -> Option<Reason>
     ensures value { result ≡ first_fitting (motion_reasons (members held) motion.now) }
     ensures rises { IsRising motion.now.pointers }
@@ -74,7 +74,7 @@ pub(crate) fn motion_reason(held: Bits32, motion: &Motion) -> Option<Reason>
     action_reason(held, motion.action, ids, motion.index)
 }
 
-/// Why an action that lists `ids` may not come if `held` are down.
+/// Why an action that lists `ids` is not allowed if `held` are down.
 fn action_reason(held: Bits32, action: MotionAction, ids: Bits32, index: u8) -> Option<Reason>
     ensures { result ≡ first_fitting (action_reasons action (members held) (members ids) index) }
 {
@@ -105,7 +105,7 @@ fn action_reason(held: Bits32, action: MotionAction, ids: Bits32, index: u8) -> 
     }
 }
 
-/// Why a key message may not come, if `due` is the next repeat number of a key that is down.
+/// Why a key message is not allowed, if `due` is the next repeat number of a key that is down.
 pub(crate) fn key_reason(due: Option<u64>, message: &KeyMsg) -> Option<Reason>
     ensures { result ≡ first_fitting (key_reasons due message.now) }
 {

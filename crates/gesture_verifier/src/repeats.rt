@@ -9,8 +9,8 @@ use pointers_down::ends;
 use std::alloc::AllocError;
 use std::collections::BTreeMap;
 
-/// What is due for a key after one of its messages, if `due` was due before: the next repeat number, or None if the
-/// key is up. The result is None if the message may not come.
+/// What is due for a key after one of its messages, if `due` was due before: the next repeat number, or None if the key
+/// is up. The result is None if the message is not allowed.
 pub fn next_repeat(due: Option<u64>, message: &KeyMsg) -> Option<Option<u64>>
     ensures { result ≡ after_key due message.now }
 {
@@ -29,7 +29,7 @@ pub fn next_repeat(due: Option<u64>, message: &KeyMsg) -> Option<Option<u64>>
     }
 }
 
-/// The place of a key among those of all devices: the keys of one device are together.
+/// The index of a key among those of all devices: the keys of one device stand together.
 pub fn place(key: &KeyArgs) -> u32
     ensures place { result ≡ place_of key.now.device key.now.scan }
     ensures key { IsTrue (is_of_device key.now.device key.now.scan) }

@@ -57,7 +57,7 @@ impl Verifier {
         }
     }
 
-    /// Accepts the next message of the stream, or says why it may not come.
+    /// Accepts the next message of the stream, or reports why it is not allowed.
     ///
     /// Returns `Fault` exactly if the stream with this message is not well-formed; it says what the window knew.
     /// Returns `Memory` only for a key message. An error leaves the verifier as it was.
@@ -79,10 +79,10 @@ impl Verifier {
         }
     }
 
-    /// Accepts the next message of the stream as `step` does, and returns whether it may come, without a reason.
+    /// Accepts the next message of the stream as `step` does, and returns whether it is allowed, without a reason.
     ///
-    /// Only a key message can run out of memory. A message that may not come, or running out of memory, leaves the
-    /// verifier as it was.
+    /// Only a key message can run out of memory. A message that is not allowed leaves the verifier as it was, and so
+    /// does running out of memory.
     pub fn accept(&mut self, message: &Message) -> Result<bool, AllocError>
         ensures accepts { Accepts result self.old self.new message.now }
         ensures stands { (past : List Message) → VerifierStandsFor past self.old → result ≡ Ok true
@@ -97,8 +97,8 @@ impl Verifier {
         Ok(true)
     }
 
-    /// Why a message may not come now; None if it may. A message that no line of a stream file can express, such as
-    /// one with other flags, may be refused without a reason.
+    /// Why a message is not allowed now; None if it is. A message that no line of a stream file can spell, such as one
+    /// with other flags, may be refused without a reason.
     pub fn reason(&self, body: &Body) -> Option<Reason>
         ensures value { result ≡ reason_of (state_of self.now) body.now }
         ensures exact { is_spelled body.now ≡ true
@@ -127,7 +127,7 @@ impl Verifier {
         held_keys(alloc, &self.repeats)
     }
 
-    /// Applies a message, if it may come.
+    /// Applies a message, if it is allowed.
     fn take(&mut self, body: &Body) -> Result<bool, AllocError>
         ensures { Takes result self.old self.new body.now }
     {
@@ -172,7 +172,7 @@ impl Verifier {
         true
     }
 
-    /// The fault of a message that may not come.
+    /// The fault of a message that is not allowed.
     fn fault(&self, message: &Message) -> Fault
         ensures { after_body (state_of self.now) message.now.body ≡ None → IsFault self.now message.now result }
     {

@@ -1,4 +1,4 @@
-//! A cursor with the steps of a session and the motions of a mouse, in rising moment.
+//! A cursor with the steps of a session and the motions of a mouse, in rising time.
 ghost use Rattle.std.specs.Prelude.{◌≡◌, ◌∷◌, ◌++◌, ℕ, List, [], reverse, take, IfOk, OnErr, OnOk};
 ghost use Rattle.raw_events.specs.declared.event.RawEvent.{RawEvent as Event};
 ghost use Rattle.session_plan.specs.Valid.{IsPlan};

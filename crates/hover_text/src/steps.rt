@@ -14,7 +14,7 @@ use input_types::Moment;
 use session_plan::{Act, Step};
 use std::alloc::AllocError;
 
-/// Applies an act at a moment, if it shows windows or removes a channel.
+/// Makes a step at a time, if it shows windows or removes a channel.
 fn act_on(cursor: &mut Cursor, now: Moment, act: &Act) -> Result<(), AllocError>
     ensures ok { (d : Screen) (calls : List Call) → CursorStandsFor d calls cursor.old
         → OnOk result (CursorStandsFor d (act_calls now act.now ++ calls) cursor.new) }
@@ -57,7 +57,7 @@ impl Hover {
         steps.get(self.next)
     }
 
-    /// The next step, if it is not later than a moment.
+    /// The next step, if it is not later than a time.
     fn due<'a>(&self, steps: &'a [Step], moment: Moment) -> Option<&'a Step>
         ensures value { option_map (λ s. s.now) result ≡ due_of moment (slice_get steps.now self.now.next) }
         ensures within { IsSome result → self.now.next < length steps.now }
@@ -70,7 +70,7 @@ impl Hover {
         }
     }
 
-    /// Makes the steps up to a moment, or as many of them as memory allows.
+    /// Makes the steps up to a time, or as many of them as memory allows.
     fn steps_up_to(&mut self, steps: &[Step], moment: Moment) -> Result<(), AllocError>
         ensures made { (d : Screen) (all : List Call) (t : ℕ) → HasMade d steps.now all t self.old → t ≤ moment
             → HasMade d steps.now all moment self.new }
@@ -83,7 +83,7 @@ impl Hover {
         Ok(())
     }
 
-    /// Makes the steps up to the moment of a motion, and then takes the motion.
+    /// Makes the steps up to the time of a motion, and then takes the motion.
     pub(crate) fn run_to(&mut self, steps: &[Step], motion: CursorCall) -> Result<(), AllocError>
         ensures made { (d : Screen) (all : List Call) (t : ℕ) → HasMade d steps.now all t self.old
             → t ≤ moment_of motion → IsNonDecreasingBy (λ s. s.at) steps.now

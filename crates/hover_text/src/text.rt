@@ -37,7 +37,7 @@ fn add_place(text: &mut Vec<u8>, at: Pixel) -> Result<(), AllocError>
     add_signed(text, at.y)
 }
 
-/// The line of a message: its moment, its action and its position in the window.
+/// The line of a message: its time, its action and its position in the window.
 #[tactic(auto, unfolding(crate::specs::Lines::message_line))]
 fn add_message(text: &mut Vec<u8>, message: &HoverMsg) -> Result<(), AllocError>
     ensures { IfOk result (λ _. text.new.items ≡ text.old.items ++ message_line message.now) }

@@ -1,7 +1,7 @@
 //! A core that threads share.
 //!
-//! A core answers calls one after another. Here threads call one core, each with its own seat, and the reply to a
-//! call is the one that the history before its place requires:
+//! A core answers calls one after another. Here threads call one core, each with its own seat. The reply to a call is
+//! the one that the history before its place requires:
 //!
 //! ```text
 //! new                                           seat 0, which has seen nothing
@@ -12,8 +12,8 @@
 //! seat 0 looks                                  3
 //! ```
 //!
-//! So a thread that gets a place and a reply knows what the core did up to that place: one history, which begins with
-//! everything that its seat had seen, and in which exactly its own calls bear its number.
+//! So a thread that gets a place and a reply knows what the core did up to that place: one history. It begins with
+//! everything that the thread's seat had seen, and the seat's own calls are exactly those that have its number there.
 #![tactic(auto)]
 
 mod calls;

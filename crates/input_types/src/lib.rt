@@ -7,8 +7,8 @@
 //! (540, 1200)] } }
 //! ```
 //!
-//! and its action word, as a MotionEvent carries it, is 0. All types here are `Copy` and own no memory. A list of
-//! pointers is a fixed table of 16 places, a [`short_list`]; contracts see the list of those in use.
+//! and its action word, as a MotionEvent has it, is 0. All types here are `Copy` and own no memory. A list of pointers
+//! is a fixed table of 16 places, a [`short_list`]; contracts see the list of those in use.
 #![tactic(auto)]
 
 mod axis;

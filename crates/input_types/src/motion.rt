@@ -64,7 +64,7 @@ pub struct Motion {
     /// 0 or `FLAG_CANCELED`; what a window is sent may have the marks `FLAG_OBSCURED` and `FLAG_PARTLY_OBSCURED`
     /// beside.
     pub flags: u32,
-    /// All pointers that are down, the one that goes down or up included.
+    /// All pointers that are down, including the one that goes down or up.
     pub pointers: Pointers,
 }
 

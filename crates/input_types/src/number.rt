@@ -138,7 +138,7 @@ impl PointerId {
     }
 }
 
-/// A moment of the recording's clock in microseconds, from 0 to 10^18 (some 31,000 years).
+/// A time of the recording's clock in microseconds, from 0 to 10^18 (some 31,000 years).
 #[derive(Clone, Copy, Debug, PartialEq, Eq)]
 pub struct Moment {
     us: u64,
@@ -155,17 +155,17 @@ impl Model for Moment {
 }
 
 impl Moment {
-    /// The greatest moment, in microseconds.
+    /// The latest time, in microseconds.
     pub const MAX_US: u64 = 1_000_000_000_000_000_000;
 
-    /// The first moment of a clock.
+    /// The earliest time of a clock.
     pub fn zero() -> Moment
         ensures { result ≡ 0 }
     {
         Moment { us: 0 }
     }
 
-    /// The moment at so many microseconds, which must be at most 10^18.
+    /// The time with this many microseconds, which must be at most 10^18.
     pub fn new(us: u64) -> Option<Moment>
         ensures variant { IsSome result ↔ (us ≤ 1000000000000000000) }
         ensures value { IfSome result (λ m. m ≡ us) }
@@ -218,7 +218,7 @@ impl Limit {
     /// The greatest timeout, in microseconds: ten minutes.
     pub const MAX_US: u64 = 600_000_000;
 
-    /// The timeout of so many microseconds, which must be 1,000 to 600,000,000.
+    /// The timeout with this many microseconds, which must be 1,000 to 600,000,000.
     pub fn new(us: u64) -> Option<Limit>
         ensures variant { IsSome result ↔ ((1000 ≤ us) × (us ≤ 600000000)) }
         ensures value { IfSome result (λ l. l ≡ us) }

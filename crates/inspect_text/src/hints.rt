@@ -99,7 +99,7 @@ fn add_scan(text: &mut Vec<u8>, device: u64, scan: u16, is_first: bool) -> Resul
     }
 }
 
-/// Adds a scan code if it is down. Answers whether the line is still to begin.
+/// Adds a scan code if it is down. Returns whether no code was added yet.
 fn add_if_down(
     text: &mut Vec<u8>,
     device: u64,

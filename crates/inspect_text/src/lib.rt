@@ -1,6 +1,6 @@
-//! What a recording and a session hold, as a text: was the input read as it was meant?
+//! What a recording and a session hold, as a text: was the input read as you meant it?
 //!
-//! A session has a touch device at `/dev/input/event2` and one step, at 2000000. Of the recording
+//! A session has a touch device at `/dev/input/event2` and one step, at 2000000. For the recording
 //!
 //! ```text
 //! add device 1: /dev/input/event2
@@ -23,10 +23,10 @@
 //! hint steps after
 //! ```
 //!
-//! Each number is that of a list of lines, events, steps or args (specs/Inspected), and a hint says what looks as if
-//! it was not meant so: here that a finger is never lifted, and that a step comes behind all events. Others are
-//! positions outside their axis, drops, a clock that goes back, and a byte order mark. The counts come from
-//! `recording_counts`, which keeps no list.
+//! Each number counts lines, events, steps or args (specs/Inspected). A hint reports what was probably not meant: here
+//! that a finger is never lifted, and that a step comes after all events. Other hints are about positions outside their
+//! axis, drops, a clock that goes back, and a byte order mark. The counts come from `recording_counts`, which keeps no
+//! list.
 #![tactic(auto, unfolding(text_lines::specs::Written::labeled))]
 
 mod counted_hints;

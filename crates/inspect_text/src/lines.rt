@@ -26,7 +26,7 @@ pub(crate) fn add_lines(
     add_word(text, "\n")
 }
 
-/// Adds the first and the last moment of the events, if there are any.
+/// Adds the earliest and the latest time of the events, if there are any.
 pub(crate) fn add_moments(text: &mut Vec<u8>, span: Option<Span>) -> Result<(), AllocError>
     ensures { IfOk result (λ _. text.new.items ≡ text.old.items ++ moments_line span) }
 {

@@ -7,7 +7,7 @@ use session_plan::Step;
 use std::alloc::AllocError;
 use text_lines::{add_labeled, add_word};
 
-/// Whether a step is before the first moment. All are if there is none.
+/// Whether a step is before the earliest time. All steps are if there is none.
 fn is_before(span: &Option<Span>, step: &Step) -> bool
     ensures { result ≡ is_before span.now step.now }
 {
@@ -17,7 +17,7 @@ fn is_before(span: &Option<Span>, step: &Step) -> bool
     }
 }
 
-/// Whether a step is after the last moment.
+/// Whether a step is after the latest time.
 fn is_after(span: &Option<Span>, step: &Step) -> bool
     ensures { result ≡ is_after span.now step.now }
 {
@@ -34,21 +34,21 @@ fn is_within(span: &Option<Span>, step: &Step) -> bool
     !(is_before(span, step) || is_after(span, step))
 }
 
-/// How many steps are before the first moment.
+/// How many steps are before the earliest time.
 fn before(span: &Option<Span>, steps: &[Step]) -> u64
     ensures { result ≡ length (filter (is_before span.now) steps.now) }
 {
     steps.iter().filter(|step| is_before(span, step)).count() as u64
 }
 
-/// How many steps are from the first moment to the last.
+/// How many steps are from the earliest time to the latest.
 fn within(span: &Option<Span>, steps: &[Step]) -> u64
     ensures { result ≡ length (filter (is_within span.now) steps.now) }
 {
     steps.iter().filter(|step| is_within(span, step)).count() as u64
 }
 
-/// How many steps are after the last moment.
+/// How many steps are after the latest time.
 fn after(span: &Option<Span>, steps: &[Step]) -> u64
     ensures { result ≡ length (filter (is_after span.now) steps.now) }
 {

@@ -12,7 +12,7 @@ pub enum JudgeError {
     /// The line is not of the grammar of stream files, or is missing: the first such one.
     BadLine { line: u64 },
 
-    /// The message of the line may not come after those before it in its section: the first such one.
+    /// The message of the line is not allowed where it stands: the first such one.
     Broken { line: u64, reason: Reason },
 
     /// The line ends a section after which something is down: the first such one.

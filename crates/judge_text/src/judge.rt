@@ -21,7 +21,7 @@ pub(crate) struct Judge {
     alloc: Global,
     /// That of the open section, up to the first break.
     verifier: Verifier,
-    /// The line of the first message that may not come where it stands, and why.
+    /// The line of the first message that is not allowed where it stands, and why.
     broken: Option<(u64, Reason)>,
     /// The line of the first end of a section that leaves something down.
     down: Option<(u64, StillDown)>,

@@ -1,4 +1,4 @@
-//! The words of the reasons for which a message may not come.
+//! The words of the reasons for which a message is not allowed.
 ghost use Rattle.std.specs.Prelude.{◌≡◌};
 ghost use Rattle.judge_text.specs.Lines.{word};
 

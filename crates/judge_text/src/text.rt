@@ -7,11 +7,11 @@ use crate::judge::Judge;
 use std::alloc::Global;
 use stream_text::StreamLines;
 
-/// The text for a stream file's bytes, each of whose sections is whole: a line for each section, with its channel and
+/// The text for the bytes of a stream file whose sections are all whole: a line for each section, with its channel and
 /// how many messages it has, and a last line with the numbers of sections and of messages.
 ///
-/// The file is refused for its first bad line; then for the first message that may not come where it stands, with the
-/// reason; then for the first section after which a pointer or a key is down; and then where it has no message.
+/// The file is refused for its first bad line; then for the first message that is not allowed where it stands, with the
+/// reason; then for the first section after which a pointer or a key is down; and then if it has no message.
 pub fn judge_text(alloc: Global, bytes: &[u8]) -> Result<Vec<u8>, JudgeError>
     ensures ok { IfOk result (λ text. judged bytes.now ≡ Ok text.items) }
     ensures err { IfErr result (Refuses (judged bytes.now)) }

@@ -49,10 +49,10 @@ impl Keys {
         }
     }
 
-    /// Takes the next EV_KEY event and answers the key that it moved, with the meta bits of all keys that are down
-    /// after it.
+    /// Takes the next EV_KEY event. Returns the key that it moved, with the meta bits of all keys that are down after
+    /// it.
     ///
-    /// Value 1 is a press, and 0 a release. None comes exactly where the value is another one (2 is the kernel's own
+    /// Value 1 is a press, and 0 a release. None comes exactly if the value is another one (2 is the kernel's own
     /// repeat), for a press of a key that is down, and for a release of one that is up.
     pub fn take(&mut self, scan: u16, value: i32) -> Result<Option<KeyArgs>, AllocError>
         ensures ok { (past : List KeyEvent) → KeysStandFor past self.old

@@ -63,8 +63,8 @@ impl Modifiers {
         }
     }
 
-    /// The meta bits that these keys set once one of a code went down or up, from those of before: a key that sets none
-    /// leaves them as they were.
+    /// The meta bits after a key with a code went down or up, from those before. A key that sets no meta bit leaves
+    /// them as they were.
     pub fn bits_after(&self, code: u16, before: u32) -> u32
         ensures { result ≡ (if sets_bits code then bits_of self.now else before) }
     {
@@ -105,7 +105,7 @@ fn some(numbers: &[usize]) -> bool
     numbers.iter().any(|n| 0 < *n)
 }
 
-/// The bit, where it is on.
+/// The bit, if it is on.
 fn bit(on: bool, bit: u32) -> u32
     ensures value { result ≡ (if on then bit else 0) }
     ensures within { result ≤ bit }

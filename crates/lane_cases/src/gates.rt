@@ -1,7 +1,7 @@
 //! Gates that hold a lane until another has come, and report whether it did.
 //!
-//! Where the script (lane 2) is held at its first call until the reader (lane 0) arrives at its third, the history
-//! begins so, but for the calls of other lanes:
+//! If the script (lane 2) is held at its first call until the reader (lane 0) arrives at its third, the history begins
+//! as follows, apart from calls of other lanes:
 //!
 //! ```text
 //! the reader   Notify { now: 1000000, .. }
@@ -32,7 +32,7 @@ pub(crate) struct Until {
 }
 
 impl Until {
-    /// The lane at `held` goes on once the one at `awaited` has arrived.
+    /// The lane at `held` goes on once the lane at `awaited` has arrived.
     pub(crate) fn new(held: Place, awaited: Place) -> Until {
         Until {
             held,

@@ -117,7 +117,7 @@ fn motion(action: MotionAction, index: u8, fingers: &[Pointer]) -> io::Result<Ar
     }))
 }
 
-/// Args at a moment.
+/// Args at a time.
 fn at(moment: u64, args: Args) -> io::Result<(Moment, Args)> {
     let Some(moment) = Moment::new(moment) else {
         return Err(ErrorKind::InvalidInput.into());

@@ -12,7 +12,7 @@ use crate::file::LentFile;
 use outside_io::{Failed, Files, FilesTrace, ReadingTrace, Source, SourceRefused};
 use std::marker::Model;
 
-/// Files in the memory of a caller. A name that none of them has is a fault.
+/// Files in the memory of a caller. A name that no file has is a fault.
 #[derive(Drop)]
 pub struct LentFiles<'a> {
     files: &'a [LentFile<'a>],
@@ -69,7 +69,7 @@ fn opened(name: &str) -> ReadingTrace
 }
 
 impl<'a> LentFiles<'a> {
-    /// These files. None is lent, and no name was missed so far. Of two files with one name the first counts.
+    /// These files. None is lent, and no name was missed so far. If two files have one name, the first counts.
     pub fn new(files: &'a [LentFile<'a>]) -> LentFiles<'a>
         ensures { result ≡ record { files = map entry_of files.now; lent = false; faults = 0; readings = [] } }
     {

@@ -71,8 +71,8 @@ impl Batcher {
         }
     }
 
-    /// Begins a frame: appends, in rising device, the moves of each device up to this moment as one batch. If memory
-    /// runs out, nothing changes.
+    /// Begins a frame: appends, in rising device, the moves of each device up to this time as one batch. If memory runs
+    /// out, nothing changes.
     #[tactic(auto, using(crate::proofs::Batched::batched_then))]
     pub fn frame(&mut self, at: Moment, out: &mut Vec<Item>) -> Result<(), AllocError>
         ensures items { (calls : List Call) → RowsStandFor calls self.old
@@ -104,7 +104,7 @@ impl Batcher {
         self.give(&None, out)
     }
 
-    /// Releases what is due at a moment.
+    /// Releases what is due at a time.
     fn give(&mut self, at: &Option<Moment>, out: &mut Vec<Item>) -> Result<(), AllocError>
         ensures items { OnOk result (out.new.items ≡ out.old.items ++ due_of_rows at.now 1 self.old) }
         ensures kept { OnOk result (self.new ≡ rows_left at.now self.old) }
@@ -120,7 +120,7 @@ impl Batcher {
         Ok(())
     }
 
-    /// Appends what is due at a moment, or as much of it as memory allows.
+    /// Appends what is due at a time, or as much of it as memory allows.
     fn append_due(&self, at: &Option<Moment>, out: &mut Vec<Item>) -> Result<(), AllocError>
         ensures items { OnOk result (out.new.items ≡ out.old.items ++ due_of_rows at.now 1 self.now) }
         ensures front { take (length out.old.items) out.new.items ≡ out.old.items }
@@ -134,7 +134,7 @@ impl Batcher {
         Ok(())
     }
 
-    /// Drops what is due at a moment.
+    /// Drops what is due at a time.
     fn drop_due(&mut self, at: &Option<Moment>)
         ensures { self.new ≡ rows_left at.now self.old }
     {

@@ -36,7 +36,7 @@ fn has_same_ids(left: &[Pointer], right: &[Pointer]) -> bool
     others.is_empty()
 }
 
-/// Whether a frame at a moment releases a sample; one without a moment releases all.
+/// Whether a frame at a time releases a sample; without a time it releases all.
 fn is_due(at: &Option<Moment>, sample: &Sample) -> bool
     ensures { result ≡ is_due at.now sample.now }
 {

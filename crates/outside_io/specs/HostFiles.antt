@@ -1,4 +1,4 @@
--- Files and streams of the machine, as contracts see them: nothing is told of what they hold, but what was read and written.
+-- Files and streams of the machine, as contracts see them: nothing is said of what they hold, only of what was read and written.
 use Rattle.std.specs.Prelude.{ℕ, Bool, List}
 use Rattle.outside_io.specs.Trace.{Reading, Writing}
 

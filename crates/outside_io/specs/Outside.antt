@@ -1,4 +1,4 @@
--- What the outside may do: how a count of faults and a reading go on, and what a set of files tells of its names.
+-- What the outside may do: how a count of faults and a reading go on, and what a set of files says of its names.
 use Rattle.std.specs.Prelude.{◌≡◌, ℕ, ◌+◌, ◌-◌, ◌^◌, ◌≤◌, min, nat_eq, nat_lt, Bool, ◌&&◌, if◌then◌else◌, List, [], ◌∷◌, ◌++◌, length, take, Option, None, Some, Result, Ok, Err, ⊤, IsSomeAnd, bytes_eq}
 use Rattle.outside_io.specs.Trace.{Reading, Writing, going, at_end, failed}
 

@@ -9,8 +9,8 @@ use crate::writing::SinkTrace;
 use std::io::Write;
 use std::marker::Model;
 
-/// A sink over a file, standard output or standard error of the machine. Contracts see how often it
-/// failed and what it took. It calls `write` alone and never flushes, so `W` is to be without a buffer.
+/// A sink over a file, standard output or standard error of the machine. Contracts see how often it failed and what it
+/// took. It only calls `write` and never flushes, so `W` must not buffer.
 #[derive(Drop)]
 pub struct HostSink<W> {
     inner: W,

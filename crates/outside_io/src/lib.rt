@@ -1,18 +1,18 @@
 //! What a program may ask of the world around it: to read a named file, and to write a text.
 //!
-//! A [`Files`] lends a [`Source`] for a name, the source is read to its end, and `done` gives it back.
-//! A [`Sink`] takes bytes. Each of the three counts its faults, and answers that it failed only in a
-//! call in which that count rose: nobody above can claim a fault that the outside did not have.
+//! A [`Files`] lends a [`Source`] for a name; the source is read to its end, and `done` gives it back. A [`Sink`] takes
+//! bytes. Each of the three counts its faults, and reports a failure only in a call in which that count rose: no caller
+//! can claim a fault that the outside did not have.
 //!
-//! Each of them logs what passed through it: a source the bytes that it gave and whether it reached its
-//! end or failed, files their readings one after another, a sink the bytes that it took and the writes that it
-//! was asked for. Contracts see that of every object, and what a file holds where the object knows it.
-//! [`HostFiles`] and [`HostSink`] stand over the machine's files and streams: they log what its reads gave and its
-//! writes took, and know nothing of what the files hold. This project chose the form of the traits.
+//! Each logs what passed through it: a source logs the bytes that it gave and whether it reached its end or failed,
+//! files log their readings one after another, and a sink logs the bytes that it took and the writes that were
+//! requested. Contracts see the log of every object, and what a file holds if the object knows it. [`HostFiles`] and
+//! [`HostSink`] stand over the machine's files and streams: they log what its reads gave and its writes took, and do
+//! not know what the files hold. The form of the traits is this project's own choice.
 //!
-//! The logs exist in proofs alone: a [`ReadingTrace`] of one file, a [`FilesTrace`] of one file after
-//! another, a [`SinkTrace`] of a sink. A trace takes no room, its calls do nothing when they run, and it
-//! says no more than the calls that note it.
+//! The logs exist in proofs alone: a [`ReadingTrace`] for one file, a [`FilesTrace`] for one file after another, a
+//! [`SinkTrace`] for a sink. A trace takes no room, its calls do nothing when they run, and it says only what the calls
+//! on it record.
 //!
 //! For example, the machine has the file `greeting` of the five bytes `hello`, and its second read fails:
 //!

@@ -13,7 +13,7 @@ pub struct Failed;
 
 /// Where bytes come from, as an open file.
 pub trait Source {
-    /// The bytes that are left, where the source tells them.
+    /// The bytes that are left, if the source states them.
     ghost left: { Self → Option (List ℕ) };
 
     /// How it was read so far.
@@ -25,9 +25,9 @@ pub trait Source {
     /// Which loan of its files this source is.
     ghost loan: { Self → ℕ };
 
-    /// Moves bytes from the front of those left into `buf`, and answers how many. The answer 0 for a
-    /// buffer that is not empty is the end. A call that fails moves none. Nothing is read after the end, or after a
-    /// call that failed.
+    /// Moves bytes from the front of those left into `buf`, and returns how many. A return of 0 for a buffer that is
+    /// not empty means the end. A call that fails moves none. Nothing may be read after the end, or after a call that
+    /// failed.
     fn read(&mut self, buf: &mut [u8]) -> Result<usize, Failed>
         requires going { (reading self.old).stage ≡ going }
         ensures bound { ReadsAtMost result buf.new }
@@ -46,8 +46,8 @@ pub trait Sink {
     /// How often it failed so far. It begins at 0.
     ghost faults: { Self → ℕ };
 
-    /// Takes a front part of `buf` and answers its length, which is at least 1 where `buf` is not
-    /// empty. A sink that can take nothing of such a piece fails. A call that fails took nothing.
+    /// Takes a front part of `buf` and returns its length, which is at least 1 if `buf` is not empty. A sink that can
+    /// take nothing of such a piece fails. A call that fails took nothing.
     fn write(&mut self, buf: &[u8]) -> Result<usize, Failed>
         ensures bound { WritesAtMost result buf.now }
         ensures some { 0 < length buf.now → IfOk result (λ n. 0 < n) }
@@ -77,10 +77,10 @@ impl From<AllocError> for SourceRefused {
 pub trait Files {
     type In: Source;
 
-    /// What the files hold, where that is known.
+    /// What the files hold, if that is known.
     ghost entries: { Self → Option (List Entry) };
 
-    /// The readings so far: of each source that came back, and of each name for which the outside failed.
+    /// The readings so far: one for each source that came back, and one for each name for which the outside failed.
     ghost readings: { Self → List Reading };
 
     /// How often it failed so far, with the faults of the sources that came back. It begins at 0.
@@ -92,8 +92,8 @@ pub trait Files {
     /// The loan that is out, if one is.
     ghost lent: { Self → Option ℕ };
 
-    /// Lends a source that has the bytes under `name` left, and no fault so far. A name that is not
-    /// there is a fault. A call that lends nothing leaves the way open for the next.
+    /// Lends a source that has the bytes under `name` left, and no fault so far. A name that does not exist is a fault.
+    /// After a call that lends nothing, the next one may lend.
     fn source(&mut self, name: &str) -> Result<Self::In, SourceRefused>
         requires lends { IsTrue (lends self.old name.now) }
         requires free { lent self.old ≡ None }

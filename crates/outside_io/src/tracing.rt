@@ -22,7 +22,7 @@ pub fn not_opened(name: &str) -> ReadingTrace
     reading
 }
 
-/// Notes a read that answered this count, with the end where it is 0 for a buffer that is not empty.
+/// Records a read that returned this count, and the end if the count is 0 for a buffer that is not empty.
 pub fn note_read(reading: &mut ReadingTrace, buf: &[u8], count: usize)
     requires bound { count ≤ length buf.now }
     requires going { reading.old.reading.stage ≡ going }

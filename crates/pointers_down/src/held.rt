@@ -8,7 +8,7 @@ ghost use Rattle.input_types.specs.Gestures.{ids_of, same_ids, allowed, is_end_f
 use bits32::Bits32;
 use input_types::{FLAG_CANCELED, Motion, MotionAction, Pointers};
 
-/// The ids that are down after a motion on a device where `held` are down; None if it may not come then.
+/// The ids that are down after a motion on a device on which `held` are down; None if the motion is not allowed then.
 pub fn next_held(held: Bits32, motion: &Motion) -> Option<Bits32>
     ensures { option_map members result ≡ after_motion (members held) motion.now }
 {
@@ -21,8 +21,8 @@ pub fn next_held(held: Bits32, motion: &Motion) -> Option<Bits32>
     )
 }
 
-/// The ids that are down in a window after a motion that it is sent, where `held` are down; None if it may not come
-/// then. It may have marks, which an `Outside` may not.
+/// The ids that are down in a window after a motion that it is sent, if `held` are down; None if the motion is not
+/// allowed. It may have marks, but an `Outside` may not.
 pub fn next_sent(held: Bits32, motion: &Motion) -> Option<Bits32>
     ensures { option_map members result ≡ after_sent (members held) motion.now }
 {
@@ -47,7 +47,7 @@ pub fn listed(pointers: &Pointers) -> Bits32
     set
 }
 
-/// The ids that are down after an action that lists `ids`, with this index and these flags; None if it may not come.
+/// The ids that are down after an action that lists `ids`, with this index and these flags; None if it is not allowed.
 fn after_listing(
     held: Bits32,
     action: MotionAction,

@@ -10,7 +10,7 @@
 //! {1}     MOVE 0                      None: it has to list what is down
 //! ```
 //!
-//! [`next_held`] is this table: the ids after a motion, or None exactly if the motion may not come. [`next_sent`] is
+//! [`next_held`] is this table: the ids after a motion, or None exactly if the motion is not allowed. [`next_sent`] is
 //! the same for what a window is sent, which may have marks.
 #![tactic(auto)]
 

@@ -1,4 +1,4 @@
--- The events of a recording, from what its lines tell.
+-- The events of a recording, from what its lines say.
 use Rattle.std.proofs.Common.{◌≡◌, ℕ, ◌++◌, ◌∷◌, [], List, Result, Ok, Err, ap, sym, refl, ◌∙◌}
 use Rattle.std.proofs.lemmas.List.{append_assoc, append-nil}
 use Rattle.raw_events.specs.declared.event.RawEvent.{RawEvent}
@@ -20,7 +20,7 @@ pub both_in_front : (first second : List RawEvent) (read : Result (List RawEvent
 both_in_front first second (Ok events) = ap (λ es. Ok es) (append_assoc first second events)
 both_in_front first second (Err error) = refl
 
--- what lines tell, in front of what the lines behind them give
+-- what lines say, in front of what the lines behind them give
 abbrev pub then' : Known → List RawEvent → Result ℕ LineError → List (List ℕ) → Result (List RawEvent) LineError
 then' devices events (Ok n) lines = with_events events (events_from devices n lines)
 then' devices events (Err error) lines = Err error

@@ -1,4 +1,4 @@
--- What a piece gives, from what its lines tell.
+-- What a piece gives, from what its lines say.
 use Rattle.std.proofs.Common.{◌≡◌, ℕ, ◌<◌, ◌≤◌, List, ◌∷◌, ◌++◌, length, Result, Ok, Err, refl, ap, sym, ◌∙◌, lt-ltb, le-ltb}
 use Rattle.std.proofs.Math.Seq.{take-length, take-append_seam}
 use Rattle.std.proofs.lemmas.List.{append-nil}

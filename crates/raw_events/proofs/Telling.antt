@@ -1,4 +1,4 @@
--- What lines tell, line by line and piece by piece.
+-- What lines say, line by line and piece by piece.
 use Rattle.std.proofs.Common.{◌≡◌, ℕ, ◌≤◌, List, [], ◌∷◌, ◌++◌, length, take, drop, Ok, Err, ap, sym, ◌∙◌, arith}
 use Rattle.std.proofs.lemmas.List.{append_assoc, append-nil, take-append-le, take-append-drop, length-take}
 use Rattle.raw_events.specs.declared.event.RawEvent.{RawEvent}
@@ -29,7 +29,7 @@ begins_both xs ys zs h k =
     let whole : ys ++ drop (length ys) zs ≡ zs = ap (λ us. us ++ drop (length ys) zs) (sym k) ∙ take-append-drop (length ys) zs in
     rw (← whole) (begins_more xs ys (drop (length ys) zs) h)
 
--- what stands in front of what a line tells
+-- what stands in front of what a line says
 line_added : (line : Line) (next n : ℕ) (mid after : List RawEvent) → TellsLine (Ok next) line n mid after → (es : List RawEvent) × (after ≡ mid ++ es)
 line_added line next n mid after t =
     let told : Told = record { events = []; next = Ok 0 } in

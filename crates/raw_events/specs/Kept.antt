@@ -36,7 +36,7 @@ pub record TakesLine (devices : Known) (bytes : List ℕ) (line : Line) (after :
   pub says : line ≡ judged devices text
   pub shorter : length after < length bytes
 
--- A line was sent: what the lines behind it tell is still to come. If memory runs out, nothing was added.
+-- A line was read: what the lines behind it say is still to come. If memory runs out, nothing was added.
 abbrev pub TellsLine : Result ℕ LineError → Line → ℕ → List RawEvent → List RawEvent → Type 0
 TellsLine (Ok next) line n before after = (next ≡ next_number n) × ((told : Told) → behind after told ≡ behind before (with_told line n told))
 TellsLine (Err errors.Memory) line n before after = after ≡ before

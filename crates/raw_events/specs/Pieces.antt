@@ -1,4 +1,4 @@
--- A recording that comes in pieces: what a piece tells, and what a reader knows between two pieces.
+-- A recording that comes in pieces: what a piece says, and what a reader knows between two pieces.
 use Rattle.std.specs.Prelude.{ℕ, ◌==◌, ◌≡◌, nat_lt, if◌then◌else◌, List, [], ◌∷◌, ◌++◌, length, Result, Ok, Err}
 use Rattle.raw_events.specs.declared.event.RawEvent.{RawEvent}
 use Rattle.raw_events.specs.declared.event.LineError.{LineError}
@@ -28,18 +28,18 @@ abbrev pub last_line : List ℕ → List (List ℕ)
 last_line [] = []
 last_line (b ∷ bs) = (b ∷ bs) ∷ []
 
--- what lines tell: the events up to the first refused line, and its refusal, or the number of the line behind them
+-- what lines say: the events up to the first refused line, and its refusal, or the number of the line behind them
 pub record Told : Type 0 where
   pub events : List RawEvent
   pub next : Result ℕ LineError
 
--- line n, in front of what the lines behind it tell
+-- line n, in front of what the lines behind it say
 abbrev pub with_told : Line → ℕ → Told → Told
 with_told PassedOver n told = told
 with_told (Event event) n told = record { events = event ∷ told.events; next = told.next }
 with_told (Refused cause) n told = record { events = []; next = Err (refusal cause n) }
 
--- what these lines tell, of which the first has the number n
+-- what these lines say, of which the first has the number n
 abbrev pub tell : Known → ℕ → List (List ℕ) → Told
 tell devices n [] = record { events = []; next = Ok n }
 tell devices n (line ∷ lines) = with_told (judged devices line) n (tell devices (next_number n) lines)

@@ -6,7 +6,7 @@ pub const EV_SYN: u16 = 0x00;
 /// Keys and buttons.
 pub const EV_KEY: u16 = 0x01;
 
-/// Absolute axes, those of touch among them.
+/// Absolute axes, including those of touch.
 pub const EV_ABS: u16 = 0x03;
 
 /// The end of a packet.
@@ -33,5 +33,5 @@ pub const MT_TOOL_PALM: i32 = 2;
 /// The number of a contact while it lasts; a negative one ends it.
 pub const ABS_MT_TRACKING_ID: u16 = 0x39;
 
-/// Whether anything touches the device. Slots say the same, so it is passed over.
+/// Whether anything touches the device. Slots say the same, so it is skipped.
 pub const BTN_TOUCH: u16 = 0x14a;

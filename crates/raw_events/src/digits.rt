@@ -137,8 +137,8 @@ static HEX_PLACES: [u32; 1024] = [
     65536, 65536, 65536, 65536, 65536, 65536, 65536, 65536,
 ];
 
-/// The value of a hexadecimal digit with so many places behind it, and 65,536 for any other byte, so that numbers which
-/// have such a byte among four are above all others.
+/// The value of a hexadecimal digit with this many places after it. Any other byte has 65,536, so that a number with
+/// such a byte among four is above all others.
 #[inline(always)]
 pub(crate) fn hex_place(behind: usize, b: u8) -> u32
     requires { behind < 4 }

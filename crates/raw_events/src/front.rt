@@ -1,5 +1,5 @@
-//! The front of a line, from its first bracket up to its type. Lines that follow one another mostly have the same one
-//! but for the microseconds, so that it is read once for many lines.
+//! The front of a line, from its first bracket up to its type. Successive lines usually have the same front except for
+//! the microseconds, so it is read once for many lines.
 ghost use Rattle.std.specs.Prelude.{◌≡◌, ◌+◌, ◌*◌, ◌^◌, ◌<◌, ◌∷◌, ◌++◌, ◌⊎◌, length, IfSome, IsTrue};
 ghost use Rattle.raw_events.specs.Line.{Known, known, sent};
 ghost use Rattle.raw_events.specs.Front.{SecondsSay, PathSays, FrontSays};
@@ -63,7 +63,7 @@ fn part_says(devices: &[(String, DeviceId)], part: &[u8]) -> Option<Option<Devic
     Some(sender_of(devices, path))
 }
 
-/// The moment of so many seconds and microseconds.
+/// The time with this many seconds and microseconds.
 #[inline(always)]
 fn moment_of(seconds: u64, micros: u64) -> Moment
     requires seconds { seconds < 10 ^ 12 }
@@ -73,7 +73,7 @@ fn moment_of(seconds: u64, micros: u64) -> Moment
     Moment::new(seconds * 1_000_000 + micros).unwrap()
 }
 
-/// The front that is made of these parts, where its microseconds are written as usual.
+/// The front made of these parts, if its microseconds are written as usual.
 #[inline(always)]
 fn front_with<'a>(
     to_point: &'a [u8],
@@ -121,7 +121,7 @@ pub(crate) fn front_of<'a>(devices: &[(String, DeviceId)], text: &'a [u8]) -> Op
     front_with(to_point, seconds, digits, part, device, head)
 }
 
-/// The seconds of the next line, which are those of the line before where they are written alike.
+/// The seconds of the next line, which are those of the line before if they are written alike.
 #[inline(always)]
 fn next_seconds(last: &[u8], seconds: u64, to_point: &[u8]) -> Option<u64>
     requires { SecondsSay last.now seconds }
@@ -134,7 +134,7 @@ fn next_seconds(last: &[u8], seconds: u64, to_point: &[u8]) -> Option<u64>
     }
 }
 
-/// The device of the next line, which is that of the line before where their paths stand alike.
+/// The device of the next line, which is that of the line before if their paths are alike.
 #[inline(always)]
 fn next_device(
     devices: &[(String, DeviceId)],
@@ -152,7 +152,7 @@ fn next_device(
     }
 }
 
-/// Takes the head of the next line, where it is as long as that of the line before in all its parts.
+/// Reads the head of the next line, if all its parts are as long as those of the line before.
 #[inline(always)]
 fn renew<'a>(devices: &[(String, DeviceId)], front: &mut Front<'a>, head: &'a [u8]) -> Option<()>
     requires front { FrontSays (known devices.now) front.old.to_point.now front.old.seconds front.old.part.now
@@ -182,7 +182,7 @@ fn renew<'a>(devices: &[(String, DeviceId)], front: &mut Front<'a>, head: &'a [u
     Some(())
 }
 
-/// Takes the head of the next line, of which nothing changes where it is that of the line before.
+/// Reads the head of the next line. Nothing changes if it is that of the line before.
 #[inline(always)]
 fn take_head<'a>(
     devices: &[(String, DeviceId)],
@@ -213,7 +213,7 @@ fn past_return(bytes: &[u8]) -> Option<&[u8]>
     }
 }
 
-/// What stands behind the end of a line: a newline, in front of which a carriage return may stand.
+/// What stands after the end of a line, which is a newline, perhaps after a carriage return.
 #[inline(always)]
 fn past_end(bytes: &[u8]) -> Option<&[u8]>
     ensures { IfSome result (λ after. (bytes.now ≡ 10 ∷ after.now) ⊎ (bytes.now ≡ 13 ∷ 10 ∷ after.now)) }
@@ -224,8 +224,8 @@ fn past_end(bytes: &[u8]) -> Option<&[u8]>
     }
 }
 
-/// The fields of the first line that ends in these bytes, and what stands behind its newline, where the line is as long
-/// as the one before it and has such a front. None says nothing.
+/// The fields of the first line that ends in these bytes, and what stands after its newline, if the line is as long as
+/// the one before it and has such a front. None decides nothing.
 #[inline(always)]
 pub(crate) fn quick_fields<'a>(
     devices: &[(String, DeviceId)],

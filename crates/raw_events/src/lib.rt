@@ -11,8 +11,8 @@
 //! the events of the devices of a session up to the first line that it refuses. Cut behind `[   12345.10` and fed in
 //! two pieces, the line above gives its event with the second piece.
 //!
-//! Lines that follow one another mostly have the same seconds and path, and their numbers are written alike. Such a
-//! line is read by its front, which the line before it left; nobody can tell which way a line went.
+//! Successive lines usually have the same seconds and path, and write their numbers alike. Such a line is read by its
+//! front, which the line before left. The events are the same either way.
 #![tactic(auto)]
 
 pub mod codes;

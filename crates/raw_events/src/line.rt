@@ -65,7 +65,7 @@ pub(crate) fn seconds(bytes: &[u8]) -> Option<(u64, &[u8])>
     decimal_at(len, bytes)
 }
 
-/// The moment behind the first bracket, in microseconds, and the second bracket.
+/// The time after the first bracket, in microseconds, and the second bracket.
 #[inline(always)]
 #[tactic(auto, unfolding(crate::specs::Line::moment_at))]
 fn moment(bytes: &[u8]) -> Option<(u64, &[u8])>
@@ -79,7 +79,7 @@ fn moment(bytes: &[u8]) -> Option<(u64, &[u8])>
     Some((seconds * 1_000_000 + fraction, rest))
 }
 
-/// The path without its colon, where one stands there.
+/// The path without its colon, if one stands there.
 #[inline(always)]
 #[tactic(auto, unfolding(crate::specs::Line::path_at))]
 pub(crate) fn path(bytes: &[u8]) -> Option<(Option<&[u8]>, &[u8])>
@@ -140,7 +140,7 @@ pub(crate) fn sender_of(devices: &[(String, DeviceId)], path: Option<&[u8]>) -> 
     }
 }
 
-/// A line behind its first bracket; None where it has not the form.
+/// A line after its first bracket; None if it does not have the form.
 #[tactic(auto, unfolding(crate::specs::Line::formed))]
 fn formed_line(devices: &[(String, DeviceId)], bytes: &[u8]) -> Option<Line>
     ensures { result ≡ formed (known devices.now) bytes.now }

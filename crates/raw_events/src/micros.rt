@@ -1,4 +1,4 @@
-//! The microseconds of a moment as every recorder writes them: six digits and the second bracket.
+//! The microseconds of a time as every recorder writes them: six digits and the second bracket.
 ghost use Rattle.std.specs.Prelude.{◌≡◌, ◌∷◌, [], ◌<◌, ◌^◌, length, IfSome};
 ghost use Rattle.raw_events.specs.Text.{number};
 ghost use Rattle.raw_events.specs.Front.{MicrosSay};
@@ -22,7 +22,7 @@ fn three(a: u8, b: u8, c: u8) -> Option<u32>
     if n < 1_000 { Some(n) } else { None }
 }
 
-/// The microseconds, where they are written as usual; None says nothing.
+/// The microseconds, if they are written as usual. None decides nothing.
 #[inline(always)]
 pub(crate) fn micros(text: &[u8]) -> Option<u64>
     ensures value { IfSome result (λ n. MicrosSay text.now n) }

@@ -1,4 +1,4 @@
-//! What a piece of a recording tells.
+//! What a piece of a recording gives.
 ghost use Rattle.std.specs.Prelude.{◌≡◌, ◌<◌, length, ◌∷◌, ◌++◌, [], IfOk, IfSome, MatchOption, vec_capacity};
 ghost use Rattle.std.specs.Result.{result_map_both};
 ghost use Rattle.raw_events.specs.Front.{FrontSays};
@@ -13,7 +13,7 @@ use crate::line::{Cause, Fields, Line, MAX_LINE, judge, judge_next};
 use input_types::{DeviceId, Moment};
 use text_lines::line_len;
 
-/// The bytes up to the first newline, and those behind it; None where there is no newline.
+/// The bytes up to the first newline, and those after it; None if there is no newline.
 #[inline(always)]
 fn next_line(bytes: &[u8]) -> Option<(&[u8], &[u8])>
     ensures parts { MatchOption result (parts bytes.now ≡ record { ended = []; begun = bytes.now })
@@ -41,7 +41,7 @@ fn refused(cause: Cause, line: u64) -> LineError
     }
 }
 
-/// Appends what a line says to the events, and answers the number of the next line.
+/// Appends the event of a line, if it gives one, and returns the number of the next line.
 #[inline(always)]
 pub(crate) fn tell_line(
     line: &Line,
@@ -65,7 +65,7 @@ pub(crate) fn tell_line(
     Ok(number.saturating_add(1))
 }
 
-/// What the first line says that ends in these bytes, and what stands behind its newline; its front is kept. None where
+/// What the first line says that ends in these bytes, and what stands after its newline. Its front is kept. None if
 /// there is no newline.
 #[inline(never)]
 #[tactic(auto, using(crate::proofs::Unended::takes_cut))]
@@ -85,7 +85,7 @@ fn find_line<'a>(
     Some((judge_next(devices, front, line), after))
 }
 
-/// Appends what a line with these fields says, from this device at this moment, and answers the number of the next
+/// Appends the event of a line with these fields, from this device at this time, and returns the number of the next
 /// line.
 #[inline(always)]
 fn tell_fields(
@@ -110,8 +110,8 @@ fn tell_fields(
     Ok(number.saturating_add(1))
 }
 
-/// Appends the events of the lines in front that have such a front, and answers the number of the line behind them with
-/// all bytes behind them.
+/// Appends the events of the first lines that have such a front. Returns the number of the line after them, and all
+/// bytes from there on.
 fn read_quick<'a>(
     devices: &[(String, DeviceId)],
     front: &mut Front<'a>,
@@ -135,7 +135,7 @@ fn read_quick<'a>(
     Ok((number, rest))
 }
 
-/// Appends the events of the lines in front that have the front that is kept, where one is.
+/// Appends the events of the first lines that have the kept front, if one is kept.
 fn read_alike<'a>(
     devices: &[(String, DeviceId)],
     front: &mut Option<Front<'a>>,
@@ -156,7 +156,7 @@ fn read_alike<'a>(
     }
 }
 
-/// Appends the events of the lines that end in these bytes, and answers the number of the line behind them with its
+/// Appends the events of the lines that end in these bytes, and returns the number of the line after them with its
 /// bytes.
 pub(crate) fn read_lines<'a>(
     devices: &[(String, DeviceId)],
@@ -197,8 +197,8 @@ pub(crate) fn tell_last(
     tell_line(&line, number, events)
 }
 
-/// Reads a piece behind the line that has begun, of which `kept` has the bytes, and answers the number of the line that
-/// goes on behind the piece, of which `kept` has the bytes then.
+/// Reads a piece after the line that has begun, whose bytes `kept` has. Returns the number of the line that goes on
+/// after the piece; `kept` then has its bytes.
 pub(crate) fn read_piece(
     devices: &[(String, DeviceId)],
     kept: &mut Vec<u8>,

@@ -12,8 +12,8 @@ use std::marker::Model;
 
 /// Reads a recording in pieces of any length, for the devices of a session with their paths.
 ///
-/// A clause sees the devices, and where the reader stands: at the number of the line that has begun with the bytes of
-/// it, or at the refusal of a line. How the bytes were cut makes no difference.
+/// Contracts see the devices, and where the reader stands: at the number of the line that has begun, with its bytes, or
+/// at the refusal of a line. It makes no difference where the bytes were cut.
 #[derive(Drop)]
 pub struct LineReader {
     devices: Vec<(String, DeviceId)>,
@@ -38,7 +38,7 @@ impl Model for LineReader {
 impl LineReader {
     /// A reader before the first byte of a recording. The first entry is the first device of the session.
     ///
-    /// It takes the memory for the longest line; no later call but for an event asks for any.
+    /// It takes the memory for the longest line. After that only an event requests memory.
     pub fn new(paths: Vec<(String, DeviceId)>) -> Result<LineReader, AllocError>
         ensures { IfOk result (λ r. r ≡ record { devices = known paths.items; place = Ok (1, []) }) }
     {
@@ -52,8 +52,8 @@ impl LineReader {
     }
 
     /// Appends the events of the lines that end in this piece. A line is refused at its newline, or at its 4,097th
-    /// byte; events of the lines before it stand in `out`, and each later call answers the same refusal. After want of
-    /// memory the reader and `out` are as before.
+    /// byte. The events of the lines before it are then in `out`, and each later call returns the same refusal. Out of
+    /// memory leaves the reader and `out` as they were.
     pub fn feed(&mut self, piece: &[u8], out: &mut Vec<RawEvent>) -> Result<(), LineError>
         ensures { Does result (fed self.old piece.now) self.old self.new out.old.items out.new.items }
     {
@@ -79,7 +79,7 @@ impl LineReader {
         }
     }
 
-    /// Takes what has begun as a last line, where there is anything. The next byte begins a new line.
+    /// Takes what has begun as a last line, if there is anything. The next byte begins a new line.
     pub fn finish(&mut self, out: &mut Vec<RawEvent>) -> Result<(), LineError>
         ensures { Does result (finished self.old) self.old self.new out.old.items out.new.items }
     {

@@ -11,9 +11,9 @@ use std::alloc::Global;
 
 /// The events of a recording in the form that `getevent -t` prints, of the devices of a session with their paths.
 ///
-/// A line that begins with `[` has to be of the form `[ SECONDS.FRACTION ] PATH: TYPE CODE VALUE`; without a path it
-/// belongs to the first device. Lines of other devices and other lines are passed over, but a line without a moment is
-/// refused. The answer is the refusal of the first refused line, where there is one.
+/// A line that begins with `[` must have the form `[ SECONDS.FRACTION ] PATH: TYPE CODE VALUE`; without a path it
+/// belongs to the first device. Lines of other devices and other lines are skipped, but a line without a time is
+/// refused. The answer is the refusal of the first refused line, if there is one.
 #[tactic(auto, unfolding(crate::specs::Recording::recorded))]
 pub fn events_of(
     alloc: Global,
@@ -30,7 +30,7 @@ pub fn events_of(
 
 /// The events of a recording that comes in these pieces, of the devices of a session with their paths.
 ///
-/// How it was cut makes no difference: the answer is that of all bytes in one piece.
+/// It makes no difference where it was cut: the answer is that for all bytes in one piece.
 pub fn read_pieces(
     paths: Vec<(String, DeviceId)>,
     pieces: &[Vec<u8>],

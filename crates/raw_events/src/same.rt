@@ -23,7 +23,7 @@ fn same_word(a: &[u8], b: &[u8], at: usize) -> bool
     word(a.split_at(at).1) == word(b.split_at(at).1)
 }
 
-/// So many bytes in front are the same: 32, or none where the texts are shorter. None says nothing.
+/// How many bytes at the front are the same: 32, or none if the texts are shorter. None decides nothing.
 #[inline(always)]
 fn same_in_front(a: &[u8], b: &[u8]) -> Option<usize>
     requires { length a.now ≡ length b.now }

@@ -8,7 +8,7 @@ ghost use Rattle.text_lines.specs.Blanks.{is_blank, skip_blanks};
 use crate::digits::value_of;
 use text_lines::{is_blank, skip_blanks};
 
-/// The bytes behind the blanks in front, of which there is at least one.
+/// The bytes after the blanks at the front, of which there is at least one.
 #[inline(always)]
 pub(crate) fn past_blanks(bytes: &[u8]) -> Option<&[u8]>
     ensures { option_map (λ rest. rest.now) result ≡ after_blanks bytes.now }

@@ -37,7 +37,7 @@ fn mostly_zeros(a: u8, b: u8, c: u8, d: u8) -> Option<u32>
     four(a, b, c, d)
 }
 
-/// Type, code and value, where they are written as usual; None says nothing.
+/// Type, code and value, if they are written as usual. None decides nothing.
 #[inline(always)]
 pub(crate) fn usual_fields(text: &[u8]) -> Option<Fields>
     ensures fields { IfSome result (λ f. fields_of text.now ≡ Some f) }

@@ -4,7 +4,7 @@ ghost use Rattle.raw_events.specs.Pieces.{parts};
 
 use text_lines::line_len;
 
-/// The bytes up to the first newline, and those behind it; None where there is no newline.
+/// The bytes up to the first newline, and those after it; None if there is no newline.
 #[inline(always)]
 pub(crate) fn next_line(bytes: &[u8]) -> Option<(&[u8], &[u8])>
     ensures parts { MatchOption result (parts bytes.now ≡ record { ended = []; begun = bytes.now })

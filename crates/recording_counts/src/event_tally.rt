@@ -17,18 +17,18 @@ use raw_events::RawEvent;
 use std::alloc::{AllocError, Global};
 use std::marker::Model;
 
-/// Counts the events of a recording, one by one, beside the readers of its devices. Its memory is that of the devices,
-/// whatever comes.
+/// Counts the events of a recording, one by one, beside the readers of its devices. Its memory depends on the devices
+/// alone, whatever comes.
 ///
-/// Contracts see the readers, the counts of each device in the order of their numbers, from which moment to which the
-/// events are, how many they are, and at how many of them the clock went back.
+/// Contracts see the readers, the counts of each device in the order of their numbers, the earliest and the latest time
+/// of the events, how many there are, and at how many of them the clock went back.
 #[derive(Drop)]
 pub struct EventTally {
     readers: Readers,
     devices: Vec<DeviceTally>,
     span: Option<Span>,
     events: u64,
-    /// How many events have a moment below that of some event before them.
+    /// How many events have a time below that of some event before them.
     back: u64,
     /// The args of an event.
     args: Vec<Args>,
@@ -95,7 +95,7 @@ impl EventTally {
         &self.devices
     }
 
-    /// The least and the greatest moment of the events; None exactly where there is no event.
+    /// The earliest and the latest time of the events; None exactly if there is no event.
     pub fn span(&self) -> Option<Span>
         ensures value { result ≡ self.now.span }
         ensures none { (plans : List DevicePlan) → EventTallyStandsFor plans [] self.now → result ≡ None }
@@ -110,7 +110,7 @@ impl EventTally {
         self.events
     }
 
-    /// How many events have a moment below that of some event before them.
+    /// How many events have a time below that of some event before them.
     pub fn clock_back(&self) -> u64
         ensures { result ≡ self.now.back }
     {
@@ -118,7 +118,7 @@ impl EventTally {
     }
 }
 
-/// How many events have a moment below that of some event before them, with the next event.
+/// How many events have a time below that of some event before them, counting the next event.
 fn back_with(back: u64, span: Option<Span>, event: &RawEvent) -> u64
     ensures { (past : List Event) → span ≡ span_of past → back ≡ counted (back_events past)
         → result ≡ counted (back_events (event.now ∷ past)) }
@@ -126,7 +126,7 @@ fn back_with(back: u64, span: Option<Span>, event: &RawEvent) -> u64
     risen_if(back, is_below(span, event.moment))
 }
 
-/// Takes the next event by the counts of its device. An event of a device without counts is passed over.
+/// Takes the next event into the counts of its device. An event of a device without counts is skipped.
 fn take_any(devices: &mut [DeviceTally], event: &RawEvent, args: &[Args]) -> Result<(), AllocError>
     ensures { (plans : List DevicePlan) (past : List Event) → args.now ≡ added plans past event.now
         → AllCounted plans past devices.old → OnOk result (AllCounted plans (event.now ∷ past) devices.new) }

@@ -10,15 +10,16 @@
 //! [       1.500000] /dev/input/event5: 0001 0073 00000001
 //! ```
 //!
-//! and a session with a touch device at `/dev/input/event2` alone, the first line is one of another form, the last one
-//! is of a path that is not in the session, and three lines give events. The device has one packet, with one finger at
-//! its end; its reader holds pointer 0, and gives one entry for the dispatcher.
+//! and a session with a touch device at `/dev/input/event2` alone, the first line has another form, the last one has a
+//! path that is not in the session, and three lines give events. The device has one packet, with one finger at its end;
+//! its reader holds pointer 0, and gives one args for the dispatcher.
 //!
 //! [`RecordingTally`] reads the pieces and counts what they are: the lines by a [`LineTally`], and the events of all
-//! devices by an [`EventTally`], one by one as their readers take them. Were the third line to end behind `0035`,
-//! `feed` would answer that line 3 is bad, and count nothing more.
+//! devices by an [`EventTally`], one by one as their readers take them. If the third line ended after `0035`, `feed`
+//! would return that line 3 is bad, and count nothing more.
 //!
-//! No list of lines or events is kept: the counts stand for all that came, and their memory does not grow with it.
+//! No list of lines or events is kept: the counts stand for everything that came, and their memory does not grow with
+//! it.
 #![tactic(auto)]
 
 mod cut;

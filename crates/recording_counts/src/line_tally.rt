@@ -53,7 +53,7 @@ impl LineTally {
         go_on(&self.devices, &mut self.begun, &mut self.counts, piece)
     }
 
-    /// Takes what has begun as a last line, where there is anything. It is the last call before `counts`.
+    /// Takes what has begun as a last line, if there is anything. It is the last call before `counts`.
     pub fn finish(&mut self) -> Result<(), AllocError>
         ensures { (devices : Known) (bytes : List ℕ) → LineTallyStandsFor devices bytes self.old
             → OnOk result (LineCountsStandFor devices (reverse (lines_of bytes)) self.new.counts) }

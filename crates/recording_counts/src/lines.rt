@@ -17,9 +17,9 @@ use memchr::memchr;
 use std::alloc::{AllocError, Global};
 use text_lines::{skip_blanks, word_len};
 
-/// How many lines there are, and how many of them are passed over: lines of nothing but blanks, lines of another form,
-/// and lines of events whose device is not in the session, with the first paths of these; and whether the first line
-/// begins with a byte order mark.
+/// How many lines there are, and how many of them are skipped: lines of nothing but blanks, lines of another form, and
+/// events of devices that are not in the session, with the first paths of these; and whether the first line begins with
+/// a byte order mark.
 #[derive(Drop)]
 pub struct LineCounts {
     pub lines: u64,
@@ -74,7 +74,7 @@ fn marked_at(lines: u64, line: &[u8], before: bool) -> bool
     if lines == 1 { is_marked(line) } else { before }
 }
 
-/// The first byte and those behind it; None where there is none.
+/// The first byte and those after it; None if there is none.
 #[inline(always)]
 fn first_byte(bytes: &[u8]) -> Option<(u8, &[u8])>
     ensures { MatchOption result (bytes.now ≡ []) (λ r. bytes.now ≡ r.0 ∷ r.1.now) }
@@ -85,7 +85,7 @@ fn first_byte(bytes: &[u8]) -> Option<(u8, &[u8])>
     }
 }
 
-/// The bytes behind the first `]`, and none where there is no such byte.
+/// The bytes after the first `]`; none if there is no such byte.
 #[inline(always)]
 fn behind_bracket(bytes: &[u8]) -> &[u8]
     ensures { result.now ≡ behind_bracket bytes.now }
@@ -96,8 +96,8 @@ fn behind_bracket(bytes: &[u8]) -> &[u8]
     }
 }
 
-/// The path that the line of an event names, given what stands behind its first bracket. A line that has not the form
-/// of one may give any.
+/// The path in the line of an event, given what stands after its first bracket. A line of another form may give any
+/// path.
 #[inline(always)]
 fn path_in(bytes: &[u8]) -> Option<&[u8]>
     ensures { (devices : Known) → IsTrue (is_some (formed devices bytes.now))
@@ -126,7 +126,7 @@ fn has_path(devices: &[(String, DeviceId)], path: &[u8]) -> bool
     false
 }
 
-/// Whether a device of the session sent a line that names this path, or none.
+/// Whether a line with this path, or with none, is of a device of the session.
 #[inline(always)]
 fn is_sent(devices: &[(String, DeviceId)], path: Option<&[u8]>) -> bool
     ensures { result ≡ is_some (sender (known devices.now) (option_map (λ p. p.now) path.entry)) }
@@ -190,7 +190,7 @@ pub(crate) fn count_line(
     Ok(())
 }
 
-/// Takes the lines that end in these bytes, and answers the bytes behind the last newline.
+/// Takes the lines that end in these bytes, and returns the bytes after the last newline.
 pub(crate) fn count_lines<'a>(
     devices: &[(String, DeviceId)],
     counts: &mut LineCounts,

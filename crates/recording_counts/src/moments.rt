@@ -1,10 +1,10 @@
-//! From the first moment to the last.
+//! The earliest and the latest time.
 ghost use Rattle.std.specs.Prelude.{◌≡◌, min, Option, Some};
 ghost use Rattle.recording_counts.specs.Moments.{is_below, widened};
 
 use input_types::Moment;
 
-/// The least and the greatest moment of some events.
+/// The earliest and the latest time of some events.
 #[derive(Clone, Copy, Debug, PartialEq, Eq)]
 pub struct Span {
     pub first: Moment,
@@ -34,7 +34,7 @@ pub(crate) fn widened(span: Option<Span>, moment: Moment) -> Option<Span>
     }
 }
 
-/// Whether a moment is below the greatest one so far.
+/// Whether a time is before the latest one so far.
 pub(crate) fn is_below(span: Option<Span>, moment: Moment) -> bool
     ensures { result ≡ is_below span moment }
 {

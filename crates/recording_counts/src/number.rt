@@ -2,7 +2,7 @@
 ghost use Rattle.std.specs.Prelude.{◌≡◌, max, if◌then◌else◌};
 ghost use Rattle.recording_counts.specs.Counted.{risen};
 
-/// One more where it is so. A number that stands at the greatest of 64 bits stays there.
+/// A number, one greater if the flag says so. At the greatest number of 64 bits it stays.
 #[inline(always)]
 pub(crate) fn risen_if(n: u64, so: bool) -> u64
     ensures { result ≡ (if so then risen n else n) }

@@ -51,8 +51,7 @@ impl UnknownPaths {
         self.paths.len()
     }
 
-    /// The path at a place counted from 0, as its bytes are, and how many lines have it; None exactly where the place
-    /// is not below `len`.
+    /// The path at an index from 0, as bytes, and how many lines have it; None exactly if the index is not below `len`.
     pub fn get(&self, i: usize) -> Option<(&[u8], u64)>
         ensures none { (result ≡ None) ↔ (length self.now.paths ≤ i) }
         ensures path { IfSome result (λ r. r.0.now ≡ get_or self.now.paths i []) }
@@ -98,7 +97,7 @@ fn add(paths: &mut Vec<Vec<u8>>, counts: &mut [u64; 8], path: &[u8]) -> Result<(
     Ok(())
 }
 
-/// Raises the number at a place where it is so.
+/// Raises the number at an index, if the flag says so.
 fn raise_if(counts: &mut [u64; 8], place: usize, so: bool)
     requires place { place < 8 }
     requires len { length counts.old ≡ 8 }
@@ -109,7 +108,7 @@ fn raise_if(counts: &mut [u64; 8], place: usize, so: bool)
     counts[place] = risen_if(counts[place], so);
 }
 
-/// Raises the number at each place that has this path, and answers whether there is one.
+/// Raises the number at each index that has this path, and returns whether there is one.
 fn raise(counts: &mut [u64; 8], paths: &[Vec<u8>], path: &[u8]) -> bool
     requires paths { length paths.now ≤ 8 }
     requires counts { length counts.old ≡ 8 }

@@ -15,7 +15,7 @@ use std::marker::Model;
 
 /// Reads a recording in pieces of any length, and counts its lines and its events.
 ///
-/// Contracts see where the reader stands, and both counts. A piece is read first, and counted where no line of it is
+/// Contracts see where the reader stands, and both counts. A piece is read first, and counted if no line of it is
 /// refused.
 #[derive(Drop)]
 pub struct RecordingTally {
@@ -54,8 +54,8 @@ impl RecordingTally {
         }
     }
 
-    /// Feeds the next piece. A line is refused at its newline, or at its 4,097th byte; that is what the whole recording
-    /// answers, whatever comes behind it. After a refusal, or if memory runs out, the counts mean nothing.
+    /// Feeds the next piece. A line is refused at its newline, or at its 4,097th byte; that is then the answer for the
+    /// whole recording, whatever follows. After a refusal, or if memory runs out, the counts mean nothing.
     pub fn feed(&mut self, piece: &[u8]) -> Result<(), LineError>
         ensures { (devices : Known) (plans : List DevicePlan) (bytes : List ℕ) → HasCounted devices plans bytes self.old
             → Counts result devices plans (bytes ++ piece.now) self.new }
@@ -67,7 +67,7 @@ impl RecordingTally {
         Ok(())
     }
 
-    /// Takes what has begun as a last line, where there is anything. It is the last call before `lines` and `events`.
+    /// Takes what has begun as a last line, if there is anything. It is the last call before `lines` and `events`.
     pub fn finish(&mut self) -> Result<(), LineError>
         ensures { (devices : Known) (plans : List DevicePlan) (bytes : List ℕ) → HasCounted devices plans bytes self.old
             → Ends result devices plans bytes self.new }

@@ -122,7 +122,7 @@ fn is_outside(ranges: &Ranges, event: &RawEvent) -> bool
         || (is_abs(event, ABS_MT_POSITION_Y) && is_beyond(&ranges.y, event.value))
 }
 
-/// Whether an event names a slot that the device does not have.
+/// Whether an event chooses a slot that the device does not have.
 fn is_astray(ranges: &Ranges, event: &RawEvent) -> bool
     ensures { result ≡ is_astray ranges.now event.now }
 {
@@ -159,7 +159,7 @@ impl Touching {
         }
     }
 
-    /// Takes the next event, and answers the contacts at the end of the packet that it ends.
+    /// Takes the next event, and returns the contacts at the end of the packet that it ends.
     fn take(&mut self, event: &RawEvent) -> Option<Contacts>
         ensures packet { (slots : ℕ) (past : List Event) → TouchesAfter slots past self.old
             → result ≡ packet_at slots past event.now }
@@ -196,7 +196,7 @@ impl Touching {
         self.held = Assigned::empty();
     }
 
-    /// Names the fingers of the packet that ended, and answers its contacts.
+    /// Gives the fingers of the packet that ended their ids, and returns its contacts.
     fn end_packet(&mut self) -> Contacts
         ensures contacts { (past : List Event) → SlotsStandFor past self.old.slots
             → result ≡ contacts_at self.old.slots.slots past }
@@ -230,7 +230,7 @@ pub struct TouchTally {
 }
 
 impl TouchTally {
-    /// A touch device with so many slots, before its first event.
+    /// A touch device with this many slots, before its first event.
     pub fn new(x: Axis, y: Axis, slots: u8) -> TouchTally
         requires { (1 ≤ slots) × (slots ≤ 16) }
         ensures { (plan : TouchPlan) → ranges_of plan ≡ record { x = x; y = y; slots = slots }

@@ -7,7 +7,7 @@ use dispatch_calls::Call;
 use input_types::Moment;
 use session_plan::Act;
 
-/// The call of a step, at its moment.
+/// The call of a step, at its time.
 pub fn call_of(now: Moment, act: Act) -> Call
     ensures value { result ≡ call_of now act }
     ensures valid { is_scripted result ≡ 1 }

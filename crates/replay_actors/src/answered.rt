@@ -15,10 +15,10 @@ use std::alloc::AllocError;
 use std::sync::Wait;
 use window_snapshot::mask_has;
 
-/// After how many answers that there is nothing to do a lane ends.
+/// A lane ends after this many idle answers.
 const IDLE: u32 = 16_384;
 
-/// Pumps once, and ticks where that was not idle. True where it was.
+/// Pumps once, and ticks unless that was idle. True if it was idle.
 fn pump<'a, R: Wait, G: Gate>(
     shared: &Shared<'a, R, G>,
     lane: &mut Lane,
@@ -73,7 +73,7 @@ impl Owner {
         }
     }
 
-    /// Takes the next message of a channel, and finishes it where the channel does so. True where there was none.
+    /// Receives the next message of a channel, and finishes it if the channel finishes. True if there was none.
     fn receive<'a, R: Wait, G: Gate>(
         &self,
         shared: &Shared<'a, R, G>,

@@ -1,8 +1,8 @@
 //! A race: a reader, a dispatcher, scripts and applications as threads that share one core; what they leave behind; and
 //! what is printed of it.
 //!
-//! The caller has opened two channels, the second of which is a window's, and has a seat of number 0. Lanes are beside
-//! each other, each with a seat of its own, so that no two runs need to go alike. One may begin so:
+//! The caller opened two channels, the second of which has a window, and has the seat with number 0. Lanes run
+//! concurrently, each with a seat of its own, so two runs need not go alike. One may begin like this:
 //!
 //! ```text
 //! seat 3, a script        Windows { now: 0, snapshot: [2 at [0, 0, 1080, 2400]] }            Done
@@ -14,14 +14,14 @@
 //! seat 5, applications    Finish { now: 0, channel: 2, seq: 1 }                              Done
 //! ```
 //!
-//! The steps of a session are dealt to its scripts ([`scripts_of`]), each lane does its own calls in order
-//! (specs/Lanes), and once all lanes have ended the caller does what is left to do ([`settle`]). Whatever the order
-//! was, [`run_lanes`] says what holds of the whole history: each lane's calls are there in the lane's order, no others
+//! The steps of a session are dealt to its scripts ([`scripts_of`]), and each lane makes its own calls in order
+//! (specs/Lanes). Once all lanes have ended, the caller does what is left to do ([`settle`]). Whatever the order was,
+//! [`run_lanes`] states what holds of the whole history: each lane's calls are there in the lane's order, no others
 //! are, and nothing is left to do (`IsRace` of specs/Race). [`race_text`] prints the order, and then what each channel
-//! was sent; who follows the printed order comes to the printed streams ([`laws`]).
+//! was sent; following the printed order leads to the printed streams ([`laws`]).
 //!
-//! A program that prints a race takes who runs its lanes as a function. Its contract can then say that its text is that
-//! of an end which this function answered: the order in the text is the one that the lanes took, and none that the
+//! A program that prints a race takes the function that runs its lanes. Its contract can then say that its text is that
+//! of an end which this function returned: the order in the text is the one that the lanes took, and not one that the
 //! program made up. [`run_start`] runs them as threads:
 //!
 //! ```text

@@ -8,7 +8,7 @@ use dispatch_calls::{Call, Entry};
 use std::alloc::{AllocError, Global};
 use stream_text::{Order, OrderLine};
 
-/// The script lane that has a seat, where the first of the seats is that of lane `first`.
+/// The script lane that has a seat, if the first of the seats is that of lane `first`.
 fn lane_of(seats: &[u64], seat: u64) -> Option<u8>
     requires { length seats.now ≤ 8 }
     ensures value { result ≡ lane_from 1 seats.now seat }
@@ -24,7 +24,7 @@ fn lane_of(seats: &[u64], seat: u64) -> Option<u8>
     None
 }
 
-/// The line of a call that no script lane made; None where it is in no order.
+/// The line of a call that no script lane made; None if it is in no order.
 fn call_line(call: &Call) -> Option<OrderLine>
     ensures value { option_to_list result ≡ call_lines call.now }
     ensures lane { IfSome result HasLane }
@@ -42,7 +42,7 @@ fn call_line(call: &Call) -> Option<OrderLine>
     }
 }
 
-/// The line of a call of this lane, where one made it.
+/// The line of a call of this lane, if one made it.
 fn line(lane: Option<u8>, call: &Call) -> Option<OrderLine>
     requires { IfSome lane (λ lane. HasLane (OrderLine.Script lane)) }
     ensures value { option_to_list result ≡ made_by lane call.now }
@@ -57,7 +57,7 @@ fn line(lane: Option<u8>, call: &Call) -> Option<OrderLine>
     }
 }
 
-/// The order of calls, the first one first, where the script lanes have these seats, lane 1 the first.
+/// The order of calls, oldest first, if the script lanes have these seats, lane 1 the first.
 pub(crate) fn order_of(alloc: Global, history: &[Entry], seats: &[u64]) -> Result<Order, AllocError>
     requires { length seats.now ≤ 8 }
     ensures { IfOk result (λ order. order ≡ lines_of seats.now history.now) }

@@ -10,7 +10,7 @@ use session_plan::Step;
 /// What the threads of a race are to do.
 #[derive(Drop)]
 pub struct Lanes {
-    /// The args that the reader hands in, in this order and each at its moment.
+    /// The args that the reader hands in, in this order and each at its time.
     pub cooked: Vec<(Moment, Args)>,
     /// The steps of each script, in its order. The first script is that of lane 1.
     pub scripts: Vec<Vec<Step>>,
@@ -59,7 +59,7 @@ impl Part {
         }
     }
 
-    /// Whether it is a script without steps, for which no thread is made.
+    /// Whether it is a script without steps, which has no thread.
     pub(crate) fn is_nothing(&self) -> bool
         ensures { result ≡ true → (own : List Own) → own ≡ [] → Did self.now own }
     {

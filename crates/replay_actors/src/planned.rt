@@ -15,7 +15,7 @@ use session_plan::Step;
 use std::alloc::AllocError;
 use std::sync::Wait;
 
-/// Hands in args, each at its moment.
+/// Hands in args, each at its time.
 pub(crate) fn read<'a, R: Wait, G: Gate>(
     shared: &Shared<'a, R, G>,
     lane: &mut Lane,

@@ -10,8 +10,7 @@ use dispatch_core::Core;
 use input_types::Moment;
 use std::alloc::AllocError;
 
-/// One receive, and the finish of the message that it gives, where the owner finishes. The answer is whether it gave
-/// one.
+/// Receives once, and finishes the message if the owner finishes. Returns whether there was one.
 fn receive(core: &mut Core, channel: u32, finishes: bool) -> Result<bool, AllocError>
     ensures came { (f : ℕ → Bool) (start : Recorded) → f channel ≡ finishes
         → Came f start (receives_from channel) core.old

@@ -1,7 +1,6 @@
-//! The steps of a session dealt to its script lanes, each of which makes its own in their order.
-//!
-//! Of four steps of lanes 1, 3, 1 and 8 lane 1 has the first and the third, lane 3 the second, lane 8 the fourth, and
-//! the other five lanes have none.
+//! The steps of a session dealt to its script lanes. Each lane makes its own steps in their order. Of four steps of the
+//! lanes 1, 3, 1 and 8, lane 1 has the first and the third, lane 3 the second, lane 8 the fourth, and the other five
+//! lanes have none.
 ghost use Rattle.std.specs.Prelude.{◌≡◌, ◌++◌, ◌<◌, ℕ, [], OnOk, IfOk, map, vec_len};
 ghost use Rattle.replay_actors.specs.Orders.{AreLanes};
 ghost use Rattle.replay_actors.specs.Session.{step_of};
@@ -26,7 +25,7 @@ fn no_steps(alloc: Global) -> Result<Vec<Vec<Step>>, AllocError>
     Ok(scripts)
 }
 
-/// Puts a step behind those of its lane. There is no lane 0, and none above the last one.
+/// Appends a step to those of its lane. There is no lane 0, and none above the last one.
 fn deal(scripts: &mut Vec<Vec<Step>>, step: Step) -> Result<(), AllocError>
     ensures len { vec_len scripts.new ≡ vec_len scripts.old }
     ensures dealt { OnOk result ((k : ℕ) → k < vec_len scripts.old

@@ -1,7 +1,7 @@
-//! Settling a core that no thread calls any more: nothing is left to do.
+//! Settles a core that no thread calls any more, until nothing is left to do.
 //!
-//! Two args wait, the second of which sends window 1 something, and its owner finishes what it is given. These calls
-//! are answered so, in this order:
+//! Two args wait. The second sends window 1 something, and its owner finishes what it is given. In this order the calls
+//! have these replies:
 //!
 //! ```text
 //! Pump, Pump, Pump                              Dispatched, Dispatched, Idle
@@ -11,7 +11,7 @@
 //! Receive 1                                     Empty
 //! ```
 //!
-//! All are the caller's, who has the number 0, and hand in moment 0, so the clock stands still.
+//! All are calls of the caller, who has the number 0. They hand in time 0, so the clock stands still.
 ghost use Rattle.std.specs.Prelude.{◌≤◌, ◌+◌, OnOk, OnErr};
 ghost use Rattle.dispatch_history.specs.History.{opened};
 ghost use Rattle.dispatch_history.specs.Settled.{Settled};
@@ -27,10 +27,10 @@ use dispatch_core::Core;
 use std::alloc::AllocError;
 use window_snapshot::mask_has;
 
-/// Does all that is left to do, in calls of number 0 at moment 0: pumps until nothing waits, looks once for windows
-/// that do not answer, and receives from the channels 1 to `channels`, one after the other, until there is nothing
-/// more. The owners of the channels in the mask `finishing` finish each message that they are given. Without memory
-/// only some of this is done.
+/// Does everything that is left to do, in calls of number 0 at time 0: pumps until nothing waits, ticks once, and
+/// receives from the channels 1 to `channels`, one after another, until there is nothing more. The owners of the
+/// channels in the mask `finishing` finish each message that they are given. If memory runs out, only a part of this is
+/// done.
 pub fn settle(core: &mut Core, channels: u32, finishing: u64) -> Result<(), AllocError>
     ensures came { OnOk result (Came (mask_has finishing) core.old (receives_from (channels + 1)) core.new) }
 

@@ -61,7 +61,7 @@ fn add_sections(core: &Core, channels: &[ChannelPlan], out: &mut Vec<u8>) -> Res
     Ok(())
 }
 
-/// Appends a line for each time that a channel was named unresponsive.
+/// Appends a line for each ANR.
 fn add_anrs(anrs: &[Anr], out: &mut Vec<u8>) -> Result<(), AllocError>
     ensures ok { OnOk result (out.new.items ≡ out.old.items ++ anr_lines anrs.now) }
     ensures err { OnErr result ((more : List ℕ) × (out.new.items ≡ out.old.items ++ more)) }
@@ -72,7 +72,8 @@ fn add_anrs(anrs: &[Anr], out: &mut Vec<u8>) -> Result<(), AllocError>
     Ok(())
 }
 
-/// Appends the streams text of a core whose channels have these names. Without memory a part of it may be appended.
+/// Appends the streams text of a core whose channels have these names. If memory runs out, a part of it may be
+/// appended.
 pub(crate) fn add_streams(
     core: &Core,
     channels: &[ChannelPlan],

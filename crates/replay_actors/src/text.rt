@@ -1,7 +1,7 @@
 //! What a race prints: the order of its calls, and then what each channel was sent.
 //!
-//! The caller opened channel 1. The reader handed in one args, which the script lane 1 had a window for, and the owner
-//! of the channel was given its message:
+//! The caller opened channel 1. A script on lane 1 showed a window for it, the reader handed in one args, and the owner
+//! of the channel received its message:
 //!
 //! ```text
 //! order 4
@@ -44,8 +44,8 @@ fn add_all(
 }
 
 /// Appends what is printed of the end of a race: the order of the calls of its core, and then what each of these
-/// channels was sent. There are at most 64 channels, those that were opened, and at most 8 scripts. After want of
-/// memory `out` is as before.
+/// channels was sent. There are at most 64 channels, those that were opened, and at most 8 scripts. Out of memory
+/// leaves `out` as it was.
 pub fn race_text(
     channels: &[ChannelPlan],
     end: &RaceEnd,

@@ -29,7 +29,7 @@ fn is_whole_holder(seen: &Seen, device: DeviceId, window: &Window) -> bool
     is_holder(seen, device, window) && window.prevents_splitting()
 }
 
-/// Of the best window so far and one behind it, the one that began first.
+/// Of the best window so far and one further back, the one that began first.
 fn sooner(seen: &Seen, device: DeviceId, best: Option<u32>, channel: u32) -> Option<u32>
     ensures { result ≡ sooner (scene_at seen.now) device best channel }
 {

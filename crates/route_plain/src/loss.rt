@@ -34,7 +34,7 @@ pub(crate) enum Loss {
         device: DeviceId,
         ids: Bits32,
     },
-    /// all pointers from windows that the snapshot does not name
+    /// all pointers from windows that the snapshot does not list
     Unnamed,
     /// all pointers from these channels
     Mute {

@@ -5,11 +5,11 @@
 //!
 //! ```text
 //! mark      Give { device: 1, id: 1, windows: {2} }
-//! tells     1: MOVE 0@100,200     2: DOWN 1@700,400
+//! sends     1: MOVE 0@100,200     2: DOWN 1@700,400
 //! after it  1 holds {0}, 2 holds {1}
 //! ```
 //!
-//! [`Touches::mark_of`] finds what a motion gives and takes; [`Mark`] itself names the marks of all other steps.
+//! [`Touches::mark_of`] finds what a motion gives and takes; [`Mark`] itself has the marks of all other steps.
 //! [`Touches::concerned`] says which windows can be sent anything at the step. [`Touches::change`] changes the tables
 //! by the mark, and returns what each window lost if one pilfers. Then [`Touches::sends`] says what a window is sent
 //! for a motion, by what it held before and holds now. None of these allocates memory or fails.

@@ -243,7 +243,7 @@ impl Touches {
         ensures { (place : ℕ) → ChangesAll self.now self.now (gives NoOp) (takes (taking self.now NoOp)) place
             (pilfers (taking self.now NoOp)) }
     {
-        // Read for its clause alone: the invariant of the tables is not visible before.
+        // Read only for its clause: the invariant of the tables is not visible before.
         let _count = self.states.len();
     }
 }

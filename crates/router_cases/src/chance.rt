@@ -1,7 +1,7 @@
 //! Numbers that chance makes.
 ghost use Rattle.std.specs.Prelude.{◌<◌, ◌≤◌};
 
-/// Numbers that look random, and are the same for the same seed: each is made from the one before it.
+/// Numbers that look random, and are the same for the same seed: each is made from the one before.
 #[derive(Drop)]
 pub(crate) struct Chance {
     state: u32,

@@ -30,7 +30,7 @@ impl Sides {
         })
     }
 
-    /// Takes a turn, of which this is the number, on both sides; answered is whether they say and hold the same.
+    /// Takes the turn with this number on both sides. Returns whether they send and hold the same.
     fn turn(&mut self, scenery: &mut Scenery, number: u64) -> Result<bool, Fail> {
         let turn = scenery.next()?;
         let windows = shown(&self.first, &self.second, scenery.shows_second);
@@ -68,8 +68,8 @@ fn note(actions: &mut Bits32, said: &[Said]) {
     }
 }
 
-/// Takes so many turns, which this seed makes. Answered are the number of the first one at which the routers differ,
-/// and the actions that were sent, as bits.
+/// Takes this many turns, which the seed makes. Returns the number of the first one at which the routers differ, and
+/// the actions that were sent, as bits.
 pub(crate) fn run(alloc: Global, seed: u32, turns: u64) -> Result<(Option<u64>, u32), Fail> {
     let mut scenery = Scenery::new(seed)?;
     let mut sides = Sides::new(alloc)?;

@@ -43,8 +43,8 @@ impl SplitSide {
         }
     }
 
-    /// Takes a turn, of which this is the number, and answers what is said. The masks are those of the live channels
-    /// and of the able ones.
+    /// Takes the turn with this number, and returns what is sent. The masks are those of the live channels and of the
+    /// able ones.
     pub(crate) fn turn(
         &mut self,
         turn: &Turn,

@@ -1,4 +1,4 @@
--- What lies over a window where it is given a pointer, and the flags that tell its owner.
+-- What lies over a window where it is given a pointer, and the flags by which its owner knows.
 use Rattle.std.specs.Prelude.{ℕ, Bool, false, not, ◌==◌, ◌&&◌, ◌||◌, if◌then◌else◌, bit_or, List, map, filter}
 use Rattle.std.specs.List.{list_any}
 use Rattle.input_types.specs.declared.motion.Motion.{Motion}

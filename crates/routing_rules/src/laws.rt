@@ -24,9 +24,9 @@ pub fn pilfering()
     ensures test { PilferingLaw }
 {}
 
-/// What lay over a window where it was given pointers. It grows while the window holds something and begins anew with
-/// the next pointer, and nothing lies over a window that no window of another owner stands in front of. A window that
-/// is blocked is given no pointer.
+/// What lay over a window when it was given pointers. It grows while the window holds something and begins anew with
+/// the next pointer. Nothing lies over a window that has no window of another owner in front of it. A window that is
+/// blocked is given no pointer.
 pub fn covering()
     ensures places { CoverLaw }
     ensures grows { CoverGrows }

@@ -24,7 +24,7 @@
 //!   device itself cancels a pointer, such as a palm's, its windows are sent a cancelled up of it.
 //! - `Cover`: what lies over a window where it is given a pointer: a window of another owner obscures it there, or only
 //!   overlaps it. `covered` of `Marks` adds this up while the window holds something, and `under` of `Cover` says with
-//!   which flags a motion then tells it.
+//!   which flags it is then sent a motion.
 //! - `Fits`: what a scene and a step must satisfy so that what is sent fits what was sent before. That it does is
 //!   proved too.
 //!

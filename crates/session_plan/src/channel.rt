@@ -60,7 +60,7 @@ fn number_of(channels: &[ChannelPlan], name: &str) -> Option<u32>
     None
 }
 
-/// The number of the channel with a name that stands at a key.
+/// The number of the channel whose name stands at a key.
 pub(crate) fn channel_named(
     alloc: Global,
     place: Place,

@@ -57,7 +57,7 @@ fn is_new(devices: &[DevicePlan], path: &str) -> bool
     true
 }
 
-/// The ends of an axis, where they are in order.
+/// The ends of an axis, if they are in order.
 fn ordered(min: i64, max: i64) -> Option<Span>
     ensures value { result ≡ ordered min max }
     ensures ordered { IfSome result (λ s. s.min ≤ℤ s.max) }
@@ -117,7 +117,7 @@ fn axis(alloc: Global, k: usize, key: &str, table: &Value) -> Result<Axis, PlanE
     Ok(Axis { min, max })
 }
 
-/// What touch device k is, of a session with so many displays.
+/// Touch device k of a session with this many displays.
 #[tactic(auto, unfolding(crate::specs::Devices::touch_of))]
 fn touch(alloc: Global, displays: usize, k: usize, table: &Value) -> Result<DeviceKind, PlanError>
     requires some { 1 ≤ displays }
@@ -170,7 +170,7 @@ fn keys(alloc: Global, k: usize, table: &Value) -> Result<DeviceKind, PlanError>
     }
 }
 
-/// Device k, behind those that were found, of a session with so many displays.
+/// Reads device k of a session with this many displays, and appends it to those that were read.
 #[tactic(auto, unfolding(crate::specs::Devices::device_of))]
 fn device(
     alloc: Global,
@@ -227,7 +227,7 @@ fn each_device(
     Ok(devices)
 }
 
-/// The devices of a session with so many displays.
+/// The devices of a session with this many displays.
 #[tactic(auto, unfolding(crate::specs::Devices::devices_of))]
 pub(crate) fn devices(
     alloc: Global,

@@ -20,7 +20,7 @@ use toml::Value;
 /// The most displays beside display 0.
 const MAX_EXTRA: usize = 3;
 
-/// How far so many degrees turn a display, where they are quarter turns.
+/// The rotation by this many degrees, if they are quarter turns.
 fn turned(degrees: i64) -> Option<Rotation>
     ensures { result ≡ turned degrees }
 {
@@ -124,7 +124,7 @@ pub(crate) fn displays(alloc: Global, document: &Value) -> Result<Vec<Display>, 
     Ok(displays)
 }
 
-/// The display that a table of a session with so many displays names, display 0 where it names none.
+/// The display that a table of a session with this many displays names; display 0 if it names none.
 #[tactic(auto, unfolding(crate::specs::Display::display_number))]
 pub(crate) fn display_number(
     alloc: Global,

@@ -18,7 +18,7 @@ pub enum PlanError {
     /// A value is of another kind than its key has, or malformed.
     Wrong { key: String },
 
-    /// A name of a channel or a flag is not known.
+    /// No channel or no flag has this name.
     UnknownName { key: String },
 
     /// A number, or the number of an array's entries, is outside its range.

@@ -96,7 +96,7 @@ fn flags_in(alloc: Global, place: Place, key: &str, value: &Value) -> Result<Win
     flags_of(alloc, place, key, values)
 }
 
-/// The flags of the window of a table, none where it names none.
+/// The flags of the window of a table; none if it names none.
 #[tactic(auto, unfolding(crate::specs::Flags::bits_at))]
 pub(crate) fn flags(alloc: Global, place: Place, table: &Value) -> Result<WindowFlags, PlanError>
     ensures { Gives (λ f. f.bits) result (bits_at place (view table.now)) }

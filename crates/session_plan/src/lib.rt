@@ -63,8 +63,8 @@
 //! | `step[k].channel` (pilfer, remove) | text | the name of a channel |
 //! | `step[k].device` (pilfer) | integer | 1 to the number of devices |
 //!
-//! An array is of another kind also where an element of it is. Numbers of an array that are out of order are `Wrong`,
-//! also where they are out of range.
+//! An array with an element of another kind is of another kind itself. Numbers of an array that are out of order are
+//! `Wrong`, even if they are also out of range.
 #![tactic(auto)]
 
 mod channel;

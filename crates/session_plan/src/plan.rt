@@ -7,7 +7,7 @@ use input_types::{Axis, DeviceId, DisplayId, Displays, Limit, Moment, Rotation};
 use key_layout::Layout;
 use window_snapshot::Snapshot;
 
-/// A session: its displays, devices, channels and steps, and a moment up to which it lasts at least.
+/// A session: its displays, devices, channels and steps, and a time up to which it lasts at least.
 #[derive(Drop)]
 pub struct Plan {
     /// Display k is the k-th of these, from 0. There are 1 to 4.
@@ -19,7 +19,7 @@ pub struct Plan {
     /// Channel k is the k-th of these, from 1.
     pub channels: Vec<ChannelPlan>,
 
-    /// In rising moment, and in the order of the file where moments agree.
+    /// In rising time, and in the order of the file if times are equal.
     pub steps: Vec<Step>,
 
     pub end: Moment,
@@ -74,7 +74,7 @@ pub struct ChannelPlan {
     pub finishes: bool,
 }
 
-/// Something that is done at a moment, on a lane from 1 to 8.
+/// Something that is done at a time, on a lane from 1 to 8.
 #[derive(Drop)]
 pub struct Step {
     pub at: Moment,
@@ -119,7 +119,7 @@ impl DeviceKind {
 }
 
 impl Plan {
-    /// The display of each device: for a touch device the one that it is on, and display 0 for every other.
+    /// The display of each device: that of a touch device, and display 0 for every other.
     pub fn device_displays(&self) -> Displays
         requires { length self.now.devices.items ≤ 8 }
         ensures { result ≡ device_displays (map device_view self.now.devices.items) }

@@ -198,7 +198,7 @@ pub(crate) fn tables_at<'a>(
     }
 }
 
-/// That there are at most so many entries.
+/// Checks that there are at most this many entries.
 pub(crate) fn at_most(
     alloc: Global,
     place: Place,

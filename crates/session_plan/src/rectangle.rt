@@ -75,7 +75,7 @@ fn corners_of(values: &[Value]) -> Option<Corners>
     }
 }
 
-/// A value as a rectangle; None where it is none, whatever its numbers are.
+/// A value as a rectangle; None if it is none, whatever its numbers are.
 #[tactic(auto, unfolding(crate::specs::Rectangles::rectangle))]
 fn rectangle(value: &Value) -> Option<Corners>
     ensures value { result ≡ rectangle (view value.now) }

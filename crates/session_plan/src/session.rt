@@ -61,10 +61,10 @@ fn plan(alloc: Global, document: &Value) -> Result<Plan, PlanError>
 }
 
 impl Plan {
-    /// The plan that the bytes of a session file say, or the first refusal in the order in which keys are read.
+    /// The plan that the bytes of a session file give, or the first refusal in the order in which keys are read.
     ///
-    /// The bytes are one TOML table. Keys that are not known are passed over, and so are keys that another kind of
-    /// device or step has. Memory may run out at any time; every other answer is that of the bytes.
+    /// The bytes are one TOML table. Unknown keys are skipped, and so are keys that another kind of device or step has.
+    /// Memory may run out at any time; every other answer follows from the bytes.
     #[tactic(auto, unfolding(crate::specs::Session::session_of))]
     pub fn read(alloc: Global, bytes: &[u8]) -> Result<Plan, PlanError>
         ensures value { Gives plan_view result (session_of bytes.now) }

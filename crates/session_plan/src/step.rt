@@ -21,7 +21,7 @@ use input_types::{DeviceId, Moment};
 use std::alloc::{AllocError, Global};
 use toml::Value;
 
-/// The greatest moment in microseconds.
+/// The latest time, in microseconds.
 pub(crate) const MAX_US: i64 = 1_000_000_000_000_000_000;
 
 /// The channel that step k names.
@@ -210,7 +210,7 @@ fn in_order(mut steps: Vec<Step>) -> Result<Vec<Step>, AllocError>
     Ok(steps)
 }
 
-/// The steps of a session, of so many devices and displays, in the order in which they are taken.
+/// The steps of a session with this many devices and displays, in the order in which they are made.
 #[tactic(auto, unfolding(crate::specs::Steps::steps_of))]
 pub(crate) fn steps(
     alloc: Global,

@@ -48,7 +48,7 @@ fn occlusion_in(
     }
 }
 
-/// The occlusion of the window of a table: `block` where it names none.
+/// The occlusion of the window of a table; `block` if it names none.
 #[tactic(auto, unfolding(crate::specs::Trust::occlusion_at))]
 pub(crate) fn occlusion(alloc: Global, place: Place, table: &Value) -> Result<Occlusion, PlanError>
     ensures { Gives (λ o. o) result (occlusion_at place (view table.now)) }

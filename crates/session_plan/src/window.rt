@@ -30,7 +30,7 @@ fn is_named(windows: &[Window], channel: u32) -> bool
     windows.iter().any(|window| window.channel == channel)
 }
 
-/// The window of a table, behind those that were found, of a session with so many displays.
+/// Reads the window of a table in a session with this many displays, and appends it to those that were read.
 #[tactic(auto, unfolding(crate::specs::Windows::window_of))]
 fn window(
     alloc: Global,
@@ -119,7 +119,7 @@ fn snapshot_of(windows: Vec<Window>) -> Result<Snapshot, PlanError>
     }
 }
 
-/// The windows of step k, front to back, of a session with so many displays.
+/// The windows of step k, front to back, in a session with this many displays.
 #[tactic(auto, unfolding(crate::specs::Windows::windows_of))]
 pub(crate) fn windows(
     alloc: Global,

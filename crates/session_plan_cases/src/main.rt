@@ -86,7 +86,7 @@ fn window_text(alloc: Global, window: &Window) -> Result<String, AllocError> {
     Ok(text)
 }
 
-/// A request of the focus: its display, and its channel where it has one.
+/// A request of the focus: its display, and its channel if it has one.
 fn focus_text(
     alloc: Global,
     display: DisplayId,
@@ -118,7 +118,7 @@ fn act_text(alloc: Global, act: &Act) -> Result<String, AllocError> {
     }
 }
 
-/// A step: its moment, its lane, and what it does.
+/// A step: its time, its lane, and what it does.
 fn step_text(alloc: Global, step: &Step) -> Result<String, AllocError> {
     let at = step.at.get();
     let act = act_text(alloc, &step.act)?;

@@ -10,7 +10,7 @@ pub enum FileError {
     /// The line does not follow the grammar of stream files, or is missing. It is the first such line.
     BadLine { line: u64 },
 
-    /// The message of the line may not come after those before it in its section. It is the first such message.
+    /// The message of the line is not allowed where it stands. It is the first such message.
     NotWellFormed { line: u64 },
 
     /// Out of memory.

@@ -8,7 +8,7 @@ use input_types::Message;
 use std::alloc::{AllocError, Global};
 use std::marker::Model;
 
-/// Goes through the messages of a section as long as each of them may come.
+/// Goes through the messages of a section as long as each is allowed.
 #[derive(Drop)]
 pub struct Judge {
     verifier: Verifier,
@@ -34,8 +34,8 @@ impl Judge {
         }
     }
 
-    /// Takes the next message of the section, and returns whether it may come. A message that may not come leaves the
-    /// judge as it was. So does running out of memory, which only a key message can do.
+    /// Takes the next message of the section, and returns whether it is allowed. A message that is not allowed leaves
+    /// the judge as it was. So does running out of memory, which only a key message can do.
     pub fn take(&mut self, message: &Message) -> Result<bool, AllocError>
         ensures ok { (messages : List Told) → HasPassed messages self.old
             → IfOk result (λ may. Passes messages message.now may self.new) }

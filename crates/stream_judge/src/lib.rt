@@ -1,4 +1,4 @@
-//! Whether the messages of a stream file may come in their order.
+//! Whether the messages of a stream file are allowed in their order.
 //!
 //! A stream file is judged in two steps: each line must follow the grammar, and each message must be one that its
 //! window may be sent after those before it in its section. In
@@ -10,11 +10,11 @@
 //! end 1 sent 2 received 2 finished 2
 //! ```
 //!
-//! the message of line 3 may not come, since the finger is down already. A line that does not follow the grammar
+//! the message of line 3 is not allowed, since the finger is down already. A line that does not follow the grammar
 //! takes precedence, wherever it is.
 //!
-//! `Judge` goes through the messages of one section, and `refusal` says why a file is refused once a message that may
-//! not come was found.
+//! `Judge` goes through the messages of one section, and `refusal` says why a file is refused once a message that is
+//! not allowed was found.
 #![tactic(auto)]
 
 mod error;

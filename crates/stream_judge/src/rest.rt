@@ -5,8 +5,8 @@ ghost use Rattle.stream_judge.specs.Judged.{refused_at};
 use crate::error::FileError;
 use stream_text::StreamLines;
 
-/// Why a file is refused in which the message of line `line` may not come: the first bad line after it takes
-/// precedence, if there is one. Reads the lines to their end.
+/// Why a file is refused if the message of line `line` is not allowed: the first bad line after it takes precedence, if
+/// there is one. Reads the lines to their end.
 pub fn refusal(line: u64, lines: &mut StreamLines<'_>) -> FileError
     ensures { result ≡ refused_at line lines.old.events }
 {

@@ -105,7 +105,7 @@ last_only bs line h =
 regroup_three : (a b c d : List ℕ) → a ++ b ++ c ++ d ≡ a ++ (b ++ (c ++ d))
 regroup_three a b c d = simp append_assoc
 
--- a naming
+-- an ANR
 name_words : (clock id seq : ℕ) → anr_words clock id seq ≡ codes "anr " ++ (decimal clock ++ (codes " " ++ (decimal id ++ (codes " " ++ (decimal seq ++ [])))))
 unfolding anr_words
 name_words clock id seq =

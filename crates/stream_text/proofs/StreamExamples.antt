@@ -31,7 +31,7 @@ pub two_downs : streams_in (events_of (codes "channel 1 main\n1 0 motion 1 DOWN 
 unfolding events_of head_of number_alone line_of channel_of channel_at end_of anr_of message_of body_of motion_of key_of focus_of device_at action_at indexed_at flag_at flags_at pointer_at pointers_at labeled_at number_at integer_at negative_at positive_at codes_at way_at
 two_downs = refl
 
--- an order in front, a section without messages twice, and a naming
+-- an order in front, a section without messages twice, and an ANR
 pub order_and_anr : streams_in (events_of (codes "order 2\nr\nf 1 7\nchannel 64 a\n1 5 focus 1\nend 64 sent 1 received 0 finished 0\nchannel 64 a\nend 64 sent 0 received 9 finished 9\nanr 6 64 1\n"))
     ≡ Ok (record { id = 64; first_line = 5; messages = record { seq = 1; moment = 5; body = Focus true } ∷ [] } ∷ record { id = 64; first_line = 8; messages = [] } ∷ [])
 unfolding events_of head_of number_alone finish_line line_of channel_of channel_at end_of anr_of message_of body_of focus_of labeled_at number_at

@@ -121,7 +121,7 @@ codes_at bs = do
   meta ← labeled_at (codes " ") (2 ^ 32 - 1) code.1
   Some (scan.0, code.0, meta.0, meta.1)
 
--- behind `key `: what is told of a key
+-- behind `key `: what is said of a key
 unfoldable pub key_of : List ℕ → Option KeyMsg
 key_of bs = do
   device ← device_at bs

@@ -1,4 +1,4 @@
--- How a message, the section of a channel and a naming are spelled.
+-- How a message, the section of a channel and an ANR are spelled.
 use Rattle.std.specs.Prelude.{codes, ℕ, ℤ, ◌==◌, nat_eq, bit_and, not, Bool, cond, List, [], ◌∷◌, ◌++◌}
 use Rattle.std.specs.Fmt.{decimal, signed_decimal}
 use Rattle.input_types.specs.declared.pointer.Pointer.{Pointer}
@@ -101,6 +101,6 @@ end_line id sent received finished =
 abbrev pub channel_section : ℕ → List ℕ → List Message → Counts → List ℕ
 channel_section id name stream counts = channel_line id name ++ message_lines stream ++ end_line id counts.sent counts.received counts.finished
 
--- the line of a naming: the clock, the channel and its oldest unfinished message
+-- the line of an ANR: the clock, the channel and its oldest unfinished message
 unfoldable pub anr_line : ℕ → ℕ → ℕ → List ℕ
 anr_line clock channel seq = labeled (codes "anr ") clock ++ labeled (codes " ") channel ++ labeled (codes " ") seq ++ codes "\n"

@@ -11,7 +11,7 @@ use Rattle.stream_text.specs.OrderText.{order_passed}
 use Rattle.stream_text.specs.StreamLine.{line_of}
 
 -- Where a file stands behind a line, from where it stood before it; None where the line may not stand there. The k-th message of a section has number k,
--- and the end of a section repeats its channel and tells how many messages it has. Namings stand behind all sections.
+-- and the end of a section repeats its channel and says how many messages it has. ANRs stand behind all sections.
 abbrev pub follow : Place → StreamLine → Option Place
 follow Between (Channel id) = Some (Section id 0)
 follow Between (Anr clock id seq) = Some Anrs

@@ -70,7 +70,7 @@ line_that_says seq moment says = line_that_sends (says >>= λ body. Some (record
 abbrev pub line_that_moves : ℕ → ℕ → Option Motion → Option StreamLine
 line_that_moves seq moment motion = line_that_says seq moment (motion >>= λ m. Some (MotionBody m))
 
--- lines without their newline: the first and the last one of a section, and a naming
+-- lines without their newline: the first and the last one of a section, and an ANR
 unfoldable pub channel_words : ℕ → List ℕ → List ℕ
 channel_words id name = codes "channel " ++ decimal id ++ codes " " ++ name
 
@@ -79,7 +79,7 @@ unfoldable pub end_words : ℕ → ℕ → ℕ → ℕ → List ℕ
 end_words id sent received finished =
     labeled (codes "end ") id ++ labeled (codes " sent ") sent ++ labeled (codes " received ") received ++ labeled (codes " finished ") finished
 
--- the line of a naming, without its newline
+-- the line of an ANR, without its newline
 unfoldable pub anr_words : ℕ → ℕ → ℕ → List ℕ
 anr_words clock id seq = labeled (codes "anr ") clock ++ labeled (codes " ") id ++ labeled (codes " ") seq
 

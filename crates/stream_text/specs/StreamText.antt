@@ -1,4 +1,4 @@
--- A stream file as it is written: the text of an order, sections of channels, and namings.
+-- A stream file as it is written: the text of an order, sections of channels, and ANRs.
 use Rattle.std.specs.Prelude.{◌≡◌, ℕ, ◌+◌, ◌^◌, ◌<◌, ◌≤◌, true, List, [], ◌∷◌, ◌++◌, length, Option, Some, None}
 use Rattle.input_types.specs.declared.message.Message.{Message}
 use Rattle.stream_text.specs.declared.order_line.OrderLine.{OrderLine}
@@ -17,7 +17,7 @@ pub record Section : Type 0 where
   pub received : ℕ
   pub finished : ℕ
 
--- a naming: the clock, the channel and its oldest unfinished message
+-- an ANR: the clock, the channel and its oldest unfinished message
 pub record Anr : Type 0 where
   pub clock : ℕ
   pub id : ℕ
@@ -32,7 +32,7 @@ abbrev pub sections_text : List Section → List ℕ
 sections_text [] = []
 sections_text (s ∷ ss) = section_text s ++ sections_text ss
 
--- the lines of namings, one after the other
+-- the lines of ANRs, one after the other
 abbrev pub anrs_text : List Anr → List ℕ
 anrs_text [] = []
 anrs_text (n ∷ ns) = anr_line n.clock n.id n.seq ++ anrs_text ns
@@ -42,7 +42,7 @@ abbrev pub front_text : Option (List OrderLine) → List ℕ
 front_text None = []
 front_text (Some order) = order_spelling order
 
--- the text of a stream file: an order that may be absent, the sections, the namings
+-- the text of a stream file: an order that may be absent, the sections, the ANRs
 unfoldable pub stream_text : Option (List OrderLine) → List Section → List Anr → List ℕ
 stream_text order sections anrs = front_text order ++ (sections_text sections ++ anrs_text anrs)
 
@@ -65,7 +65,7 @@ abbrev pub AreSections : List Section → Type 0
 AreSections [] = Unit {0}
 AreSections (s ∷ ss) = IsSection s × AreSections ss
 
--- the numbers of each of these namings are in their ranges
+-- the numbers of each of these ANRs are in their ranges
 abbrev pub AreAnrs : List Anr → Type 0
 AreAnrs [] = Unit {0}
 AreAnrs (n ∷ ns) = (n.clock ≤ 1000000000000000000) × IsId n.id × (n.seq < 2 ^ 64) × AreAnrs ns

@@ -1,7 +1,7 @@
 //! The texts of the service: what windows were sent, and in which order the calls were made.
 //!
-//! The second message of channel 1, told at 2,000 microseconds, that pointer 0 moved to (110, 200) while pointer 1
-//! stayed, is the line
+//! The second message of channel 1 is sent at 2,000 microseconds. It says that pointer 0 moved to (110, 200) while
+//! pointer 1 stayed:
 //!
 //! ```text
 //! 2 2000 motion 1 MOVE 0@110,200 1@300,400
@@ -10,7 +10,7 @@
 //! Numbers are decimal without leading zeros, words are separated by one space, and each line ends in a newline. Each
 //! message has one spelling: the definitions stand in `specs/Spelling.antt`.
 //!
-//! An order names the calls of a run, one a line, behind a line that says how many they are: `specs/Order.antt` and
+//! An order lists the calls of a run, one a line, after a line that says how many there are: `specs/Order.antt` and
 //! `specs/OrderText.antt`.
 //!
 //! A stream file has the streams of some channels, as any program may write it:
@@ -22,8 +22,8 @@
 //! end 1 sent 2 received 2 finished 2
 //! ```
 //!
-//! An order may stand in front, and namings may stand behind the sections. `StreamLines` goes through such a file line
-//! by line and takes no memory; `StreamReader` answers its streams.
+//! An order may stand in front of the sections, and ANRs after them. `StreamLines` goes through such a file line by
+//! line and takes no memory; `StreamReader` returns its streams.
 #![tactic(auto)]
 
 mod order;

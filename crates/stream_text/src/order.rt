@@ -73,12 +73,12 @@ impl Order {
         self.lines.get(i).copied()
     }
 
-    /// The order in front of a text: a line `order N`, and then N lines, each `r`, `s LANE`, `p`, `k`, `g CHANNEL` or
-    /// `f CHANNEL SEQ`.
+    /// The order at the front of a text: a line `order N`, and then N lines, each `r`, `s LANE`, `p`, `k`, `g CHANNEL`
+    /// or `f CHANNEL SEQ`.
     ///
-    /// Numbers are decimal, without leading zeros: N and SEQ have 64 bits, CHANNEL 32, and LANE is 1 to 8. Whatever
-    /// follows is passed over, and the last line may lack its newline. The refusal is that of the first line that has
-    /// not its form or is missing.
+    /// Numbers are decimal, without leading zeros: N and SEQ have 64 bits, CHANNEL 32, and LANE is 1 to 8. Everything
+    /// after the lines is skipped, and the last line may lack its newline. The refusal is that of the first line that
+    /// does not have its form or is missing.
     pub fn read(alloc: Global, bytes: &[u8]) -> Result<Order, OrderError>
         ensures exact { Answers (λ o. o) result (order_of bytes.now) }
 
@@ -155,7 +155,7 @@ pub fn order_text(order: &Order, out: &mut Vec<u8>) -> Result<(), AllocError>
     // What is appended is read again as the order, whatever follows.
     ensures again { (rest : List ℕ) → order_of (order_spelling order.now ++ rest) ≡ Ok order.now }
 
-    // In front of other lines it is passed over.
+    // An order in front of other lines is skipped.
     ensures passed { (rest : List ℕ)
         → order_passed (lines_of (order_spelling order.now ++ rest)) ≡ Ok (length order.now + 2, lines_of rest) }
 {

@@ -6,8 +6,8 @@ ghost use Rattle.text_lines.specs.Lines.{lines_of};
 use crate::order_line::{order_line, read_head};
 use text_lines::first_line;
 
-/// Passes over lines of an order, from line 2 on. It answers the number of the next line and what stands from there on,
-/// or the number of the first line that is bad or missing.
+/// Skips the lines of an order, from line 2 on. Returns the number of the next line and what stands from there on, or
+/// the number of the first line that is bad or missing.
 #[tactic(auto, using(crate::proofs::OrderReading::all_passed))]
 fn pass_lines(count: u64, bytes: &[u8]) -> Result<(u64, &[u8]), u64>
     ensures value { Passes (λ p. (p.0, lines_of p.1.now)) result (lines_passed 2 count (lines_of bytes.now)) }
@@ -38,9 +38,9 @@ fn ended_head(text: &[u8], ended: bool) -> Option<u64>
     if ended { read_head(text) } else { None }
 }
 
-/// Passes over the order in front of a stream file, in which a newline ends each line. It answers the number of the
-/// line behind the order and what stands from there on, or the number of the first line of the order that is bad or
-/// missing. Where no order begins, that is line 1.
+/// Skips the order in front of a stream file, in which a newline ends each line. Returns the number of the line after
+/// the order and what stands from there on, or the number of the first line of the order that is bad or missing. If no
+/// order begins, that is line 1.
 pub(crate) fn pass_order(bytes: &[u8]) -> Result<(u64, &[u8]), u64>
     ensures value { Passes (λ p. (p.0, lines_of p.1.now)) result (order_passed (lines_of bytes.now)) }
     ensures within { IfOk result (λ p. p.0 + length p.1.now ≤ 1 + length bytes.now) }

@@ -89,8 +89,8 @@ fn finish(bytes: &[u8]) -> Option<OrderLine>
     })
 }
 
-/// How many lines follow the first line of an order, given without its newline; None exactly where it has not the form
-/// of one.
+/// How many lines follow the first line of an order, given without its newline; None exactly if the line does not have
+/// that form.
 #[tactic(auto, unfolding(crate::specs::OrderText::head_of))]
 pub(crate) fn read_head(line: &[u8]) -> Option<u64>
     ensures { result ≡ head_of line.now }
@@ -98,7 +98,7 @@ pub(crate) fn read_head(line: &[u8]) -> Option<u64>
     number_alone(u64::MAX, past("order ", line)?)
 }
 
-/// What a line says, given without its newline; None exactly where it has not the form of an order's line.
+/// What a line says, given without its newline; None exactly if it does not have the form of an order's line.
 pub(crate) fn order_line(line: &[u8]) -> Option<OrderLine>
     ensures value { result ≡ order_line_of line.now }
     ensures lane { IfSome result HasLane }

@@ -7,8 +7,8 @@ use std::alloc::{AllocError, AllocFailed};
 /// Why a stream file is not read. Lines are numbered from 1.
 #[derive(Clone, Copy, Debug, PartialEq, Eq)]
 pub enum StreamError {
-    /// The line has not its form, does not fit where it stands, or is missing: the first such one. A missing line has
-    /// the number one past the last line there.
+    /// The line does not have its form, does not fit where it stands, or is missing: the first such one. A missing line
+    /// has the number one past the last line there.
     BadLine { line: u64 },
 
     /// Memory ran out.

@@ -22,7 +22,7 @@ pub enum StreamLine {
         received: u64,
         finished: u64,
     },
-    /// At `clock` a channel was named unresponsive, and `seq` was its oldest unfinished message.
+    /// At `clock` a channel was reported unresponsive, and `seq` was its oldest unfinished message.
     Anr {
         clock: Moment,
         id: u32,
@@ -31,7 +31,7 @@ pub enum StreamLine {
 }
 
 impl StreamLine {
-    /// What a line says, given without its newline; None where it has none of the four forms.
+    /// What a line says, given without its newline; None if it has none of the four forms.
     ///
     /// Each line that spells something is read as that, and nothing else is read.
     #[tactic(auto, using(crate::proofs::LineTexts::line_again, crate::proofs::LineTexts::line_only), unfolding(crate::specs::StreamLine::line_of))]

@@ -10,7 +10,7 @@ use std::mem;
 /// The most bytes up to which two pieces are merged, 64 KiB: a short text is one piece.
 const SHORT: usize = 65536;
 
-/// A text in pieces, of which any two neighbours have more than 64 KiB together. Contracts see its bytes.
+/// A text in pieces. Any two neighbouring pieces have more than 64 KiB together. Contracts see its bytes.
 #[derive(Drop)]
 pub struct Pieces {
     before: Vec<Vec<u8>>,

@@ -90,7 +90,7 @@ pub(crate) fn new_contacts(places: &[Place], want: &[Want]) -> News
     news
 }
 
-/// The ids that slots hold, and so many of the least ones that no slot holds.
+/// The ids that slots hold, and this many of the least ones that no slot holds.
 fn assignable(places: &[Place], count: usize) -> Bits32
     ensures { (i : ℕ) → i < 32 → is_in i result ≡ is_assignable places.now count i }
 {
@@ -105,7 +105,7 @@ fn assignable(places: &[Place], count: usize) -> Bits32
     ids
 }
 
-/// The first wanted id that no slot holds and that no new contact may have, if so many are new.
+/// The first wanted id that no slot holds and that no new contact may have, if this many contacts are new.
 pub(crate) fn unassignable(places: &[Place], count: usize, want: &[Want]) -> Option<PointerId>
     ensures { result ≡ unassignable_of places.now count want.now }
 {

@@ -56,7 +56,7 @@ fn add_blanks(text: &mut Vec<u8>, count: usize) -> Result<(), AllocError>
     Ok(())
 }
 
-/// Adds a moment in seconds, with six digits of microseconds, in brackets.
+/// Adds a time in seconds, with six digits of microseconds, in brackets.
 #[tactic(auto, unfolding(crate::specs::EventText::stamp))]
 fn add_stamp(text: &mut Vec<u8>, moment: u64) -> Result<(), AllocError>
     ensures { IfOk result (λ _. text.new.items ≡ text.old.items ++ stamp moment) }

@@ -37,7 +37,7 @@ impl Model for Draft {
 }
 
 impl Draft {
-    /// No event of a packet of this device at this moment.
+    /// A packet of this device at this time without events.
     fn new(device: DeviceId, moment: Moment) -> Draft
         ensures { result ≡ record { device = device; moment = moment; events = [] } }
     {

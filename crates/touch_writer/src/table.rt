@@ -59,7 +59,7 @@ fn cost(current: usize, slot: usize, old: &Place, new: &Place) -> u32
     if changes == 0 { 0 } else { changes + 1 }
 }
 
-/// Whether a new contact comes into a slot that it may come into: it must, or that takes no more events.
+/// Whether a new contact takes a slot that is free for it: it must, or taking it costs no more events.
 fn comes_first(free: usize, left: usize, here: u32, later: u32) -> bool
     ensures { result ≡ (nat_lt free left || nat_le here later) }
 {

@@ -43,7 +43,7 @@ impl Model for Writer {
 }
 
 impl Writer {
-    /// A writer of a device with so many slots, all of them without a contact, with slot 0 as the current one.
+    /// A writer of a device with this many slots, all without a contact; slot 0 is the current one.
     pub fn new(device: DeviceId, slots: u8) -> Writer
         requires { (1 ≤ slots) × (slots ≤ 16) }
         ensures { result ≡ record { device = device; current = 0; places = replicate slots vacant; used = 0 } }

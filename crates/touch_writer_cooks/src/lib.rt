@@ -8,10 +8,10 @@
 //! 1@300,400            SLOT 0, TRACKING_ID -1, SYN_REPORT
 //! ```
 //!
-//! `Slots` reads these events as two slots, and `Ids` names the contacts that they hold at the end of each packet.
-//! The pointers are 0@100,200 first, then 0@100,200 and 1@300,400, and then 1@300,400: those that were asked for.
-//! [`laws`] says that this holds for each list of packets that a writer does not refuse, and that a reader of
-//! recordings gets exactly these events from the lines.
+//! `Slots` reads these events as two slots, and `Ids` gives the contacts at the end of each packet their ids. The
+//! pointers are 0@100,200 first, then 0@100,200 and 1@300,400, and then 1@300,400: those that were asked for. [`laws`]
+//! says that this holds for each list of packets that a writer does not refuse, and that a reader of recordings gets
+//! exactly these events from the lines.
 #![tactic(auto)]
 
 pub mod laws;

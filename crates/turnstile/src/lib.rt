@@ -13,8 +13,8 @@
 //! seat 0 looks                 3
 //! ```
 //!
-//! A seat learns of one history: each later one begins with everything that the seat had seen, and contains exactly
-//! the seat's own calls under its number.
+//! A seat sees one history: each later one begins with everything that the seat had seen, and the seat's own calls are
+//! exactly those that have its number there.
 #![tactic(auto)]
 
 mod calls;

@@ -5,7 +5,7 @@ ghost use Rattle.turnstile_cases.specs.Counting.{total_after, IsCounted};
 use std::alloc::{AllocError, Global};
 use turnstile::Machine;
 
-/// It is set up with the total to start from. Totals are those of 64 bits.
+/// It is set up with the total to start from. Totals have 64 bits.
 #[derive(Drop)]
 pub(crate) struct Counter {
     start: u64,

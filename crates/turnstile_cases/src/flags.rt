@@ -27,7 +27,7 @@ impl Flags {
         self.open.store(1, Ordering::SeqCst);
     }
 
-    /// Waits until a step is inside. False where it gave up.
+    /// Waits until a step is inside. False if it gave up.
     pub(crate) fn wait_inside(&self) -> bool {
         reaches_one(&self.inside)
     }
@@ -39,7 +39,7 @@ impl Flags {
     }
 }
 
-// Waits until the number is 1. False where it gave up.
+// Waits until the number is 1. False if it gave up.
 fn reaches_one(number: &AtomicU64) -> bool {
     for _ in 0..TURNS {
         if number.load(Ordering::SeqCst) == 1 {

@@ -21,7 +21,7 @@
 //! key device[1].slots
 //! ```
 //!
-//! Tables go in the order in which a session is read, and the keys of a table in rising order of their bytes. What
+//! Tables come in the order in which a session is read, and the keys of a table in rising order of their bytes. What
 //! stands inside such a key is not looked at.
 #![tactic(auto)]
 

@@ -36,7 +36,7 @@ fn is_plain(key: &[u8]) -> bool
     key.len() > 0 && are_graphic(key)
 }
 
-/// A key as it is where it is plain, and `?` else.
+/// A key as it is if it is plain, and otherwise `?`.
 fn add_key(text: &mut Vec<u8>, key: &str) -> Result<(), AllocError>
     ensures { IfOk result (λ _. text.new.items ≡ text.old.items ++ spelled key.now) }
 {

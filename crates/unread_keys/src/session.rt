@@ -46,7 +46,7 @@ fn add_document(text: &mut Vec<u8>, document: &Value) -> Result<(), AllocError>
 
 /// Adds a line for each key of a session file that nothing reads: `key` and its path, as `key device[1].slots`.
 ///
-/// A key is read where docs/SESSION.md names it at its place, for the kind of device or of step that has it. Bytes that
+/// A key is read if docs/SESSION.md names it at its place, for the kind of device or of step that has it. Bytes that
 /// are no TOML add nothing. If memory runs out, some lines may have been added.
 pub fn add_unread_keys(alloc: Global, bytes: &[u8], text: &mut Vec<u8>) -> Result<(), AllocError>
     ensures { IfOk result (λ _. text.new.items ≡ text.old.items ++ unread_text bytes.now) }

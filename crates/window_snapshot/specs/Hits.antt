@@ -29,7 +29,7 @@ in_front windows live x y = before_first (takes_touch live x y) windows
 abbrev pub spies : List Window → (ℕ → Bool) → ℤ → ℤ → List Window
 spies windows live x y = filter (spies_touch live x y) (in_front windows live x y)
 
--- the window is live and asks to be told of touches outside of it
+-- the window is live and asks to be sent touches outside of it
 abbrev pub watches : (ℕ → Bool) → Window → Bool
 watches live w = watches_outside w && live w.channel
 

@@ -11,8 +11,8 @@ use crate::snapshot::{Snapshot, window_in};
 use crate::window::Window;
 
 impl Snapshot {
-    /// The windows that block that of a channel at a point of the display: those that no touch may go through; if there
-    /// are none, those whose opacity decides. They have channels in the mask `live`.
+    /// The windows that block the window of a channel at a point of the display: those that no touch may go through; if
+    /// there are none, those whose opacity decides. They have channels in the mask `live`.
     pub fn blockers(&self, x: i32, y: i32, live: u64, channel: u32) -> u64
         ensures { (c : ℕ) → mask_has result c ≡ (is_channel c && blockers self.now (mask_has live) x y channel c) }
     {
@@ -46,7 +46,7 @@ fn any_wall(front: &[Window], x: i32, y: i32, live: u64, window: &Window) -> boo
         .any(|other| other.occlusion.is_blocking())
 }
 
-/// The mask of those of them that no touch may go through.
+/// The mask of those windows that no touch may go through.
 fn walls(front: &[Window], x: i32, y: i32, live: u64, window: &Window) -> u64
     ensures { result ≡ mask_of (filter is_wall (blocking (mask_has live) front.now window.now x y)) }
 {

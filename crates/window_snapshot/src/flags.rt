@@ -6,7 +6,7 @@ use bitflags::{Flag, Flags};
 /// What a window asks of the dispatcher, as a set of flags. Names and bits are this project's own choice; the meanings
 /// are those of the input configuration that Android's windows have.
 ///
-/// A value may carry bits that are no flag. Nothing looks at them.
+/// A value may carry bits that are no flag. They are ignored.
 #[derive(Clone, Copy, PartialEq, Eq, Debug)]
 pub struct WindowFlags {
     bits: u32,
@@ -19,10 +19,10 @@ impl WindowFlags {
     /// It never has the focus.
     pub const NOT_FOCUSABLE: WindowFlags = WindowFlags { bits: 2 };
 
-    /// It is sent a touch outside of it, where that goes to a window behind it.
+    /// It is sent a touch outside of it, if that goes to a window behind it.
     pub const WATCH_OUTSIDE_TOUCH: WindowFlags = WindowFlags { bits: 4 };
 
-    /// A finger that moves out of it may go on to the window that it comes to.
+    /// A finger that moves out of it may continue in the window that it enters.
     pub const SLIPPERY: WindowFlags = WindowFlags { bits: 8 };
 
     /// It sees the touches of what is behind it, beside the window that is touched.

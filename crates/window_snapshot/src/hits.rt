@@ -88,7 +88,7 @@ fn watches(window: &Window, live: u64) -> bool
     window.watches_outside() && mask_has(live, window.channel)
 }
 
-/// The mask of those of these windows that are spies which the point hits.
+/// The mask of those of these windows that are spies hit by the point.
 fn spy_mask(windows: &[Window], x: i32, y: i32, live: u64) -> u64
     ensures { result ≡ mask_of (filter (spies_touch (mask_has live) x y) windows.now) }
 {

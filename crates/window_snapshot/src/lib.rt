@@ -1,13 +1,13 @@
 //! What is on the displays: the windows, front to back, and which of them a point touches.
 //!
-//! A snapshot lists the windows with the one in front first. A point touches the first window that takes touches there;
-//! the spies in front of it see the touch too, and the watchers in front of it are sent a touch outside of them.
-//! With a spy from (0, 0) to (1080, 1200) as channel 1 in front of a window of the whole display as channel 2, the
-//! point (100, 100) touches channel 2 and has the spies {1}, and the point (100, 2000) touches channel 2 and has none.
+//! A snapshot lists the windows, the front one first. A point touches the first window that takes touches there; the
+//! spies in front of it see the touch too, and the watchers in front of it are sent a touch outside of them. Say that
+//! channel 1 has a spy from (0, 0) to (1080, 1200), in front of a window of channel 2 over the whole display. The point
+//! (100, 100) touches channel 2 and has the spies {1}, and the point (100, 2000) touches channel 2 and has none.
 //!
-//! Each window is on one display, and positions are pixels of it. Who asks for a point of one display hands in the
-//! channels that are live there. A mask is a set of channels: bit `id - 1` stands for the channel `id`, for ids 1 to
-//! 64. A channel number outside of them is in no mask, so it is never live.
+//! Each window is on one display, and positions are pixels of it. A call for a point of one display takes the channels
+//! that are live there. A mask is a set of channels: bit `id - 1` stands for the channel `id`, for ids 1 to 64. A
+//! channel number outside of them is in no mask, so it is never live.
 #![tactic(auto)]
 
 mod blockers;

@@ -27,7 +27,7 @@ fn bit_of(channel: u32) -> u64
     }
 }
 
-/// The mask with the channel in it. A number outside 1 to 64 leaves it as it is.
+/// The mask with a channel added. A number outside 1 to 64 leaves it as it is.
 pub fn mask_with(mask: u64, channel: u32) -> u64
     ensures { result ≡ mask_with mask channel }
 {

@@ -12,7 +12,7 @@ use crate::snapshot::{Snapshot, place_in};
 use crate::window::Window;
 use touch_region::Rect;
 
-/// The parts of light that come to the windows in front of a window.
+/// The parts of light before the first window takes some.
 const LIGHT: u32 = 1_000_000;
 
 /// The parts of light that leave a window to be seen, a fifth of them.
@@ -152,7 +152,7 @@ fn clearness(front: &[Window], x: i32, y: i32, live: u64, window: &Window, owner
         .fold(LIGHT, |light, other| dimmed(light, other))
 }
 
-/// What comes through a window of what comes to it, rounded down.
+/// What comes through a window of the light that reaches it, rounded down.
 fn dimmed(light: u32, window: &Window) -> u32
     ensures { result ≡ dimmed light window.now }
 {

@@ -11,9 +11,9 @@ use std::marker::Model;
 /// How many windows a snapshot has at most.
 pub const MAX_WINDOWS: usize = 64;
 
-/// The windows on the display at one moment, front to back.
+/// The windows on the displays at one time, front to back.
 ///
-/// A clause sees it as the list of its windows, the one in front first. There are at most 64, no two of one channel.
+/// Contracts see the list of its windows, the front one first. There are at most 64, no two of one channel.
 #[derive(Drop)]
 pub struct Snapshot {
     windows: Vec<Window>,
@@ -98,28 +98,28 @@ impl Snapshot {
         windows
     }
 
-    /// The mask of the channels that it names.
+    /// The mask of the channels that it lists.
     pub fn names(&self) -> u64
         ensures { (c : ℕ) → mask_has result c ≡ (is_channel c && is_named self.now c) }
     {
         names(&self.windows)
     }
 
-    /// The mask of the channels that it names with a window on this display.
+    /// The mask of the channels that it lists with a window on this display.
     pub fn on(&self, display: DisplayId) -> u64
         ensures { (c : ℕ) → mask_has result c ≡ (is_channel c && is_shown_on self.now display c) }
     {
         shown_on(&self.windows, display)
     }
 
-    /// The mask of the channels that it names with a window on this display that may have the focus.
+    /// The mask of the channels that it lists with a window on this display that may have the focus.
     pub fn focusable(&self, display: DisplayId) -> u64
         ensures { (c : ℕ) → mask_has result c ≡ (is_channel c && is_focusable_on self.now display c) }
     {
         focusable_on(&self.windows, display)
     }
 
-    /// How many windows stand in front of that of the channel; `None` where it names no such channel.
+    /// How many windows stand in front of the channel's window; `None` if it lists no such channel.
     pub fn place_of(&self, channel: u32) -> Option<u32>
         ensures { result ≡ place_of self.now channel }
     {
@@ -129,7 +129,7 @@ impl Snapshot {
         }
     }
 
-    /// The flags of the channel's window; `None` where it names no such channel.
+    /// The flags of the channel's window; `None` if it lists no such channel.
     pub fn flags_of(&self, channel: u32) -> Option<WindowFlags>
         ensures { result ≡ flags_of self.now channel }
     {
@@ -139,7 +139,7 @@ impl Snapshot {
         }
     }
 
-    /// The display of the channel's window; `None` where it names no such channel.
+    /// The display of the channel's window; `None` if it lists no such channel.
     pub fn display_of(&self, channel: u32) -> Option<DisplayId>
         ensures { result ≡ display_of self.now channel }
     {
@@ -149,8 +149,7 @@ impl Snapshot {
         }
     }
 
-    /// The left top corner of the frame of the channel's window, in display pixels; `None` where it names no such
-    /// channel.
+    /// The left top corner of the frame of the channel's window, in display pixels; `None` if it lists no such channel.
     pub fn origin_of(&self, channel: u32) -> Option<Pixel>
         ensures { result ≡ origin_of self.now channel }
     {

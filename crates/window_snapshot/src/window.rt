@@ -16,8 +16,8 @@ pub struct Window {
     pub channel: u32,
     /// The display that it is on. Its pixels are those of this display.
     pub display: DisplayId,
-    /// Where the window is, in display pixels. Its left and top edges alone matter: they are the origin of what the
-    /// window is sent.
+    /// Where the window is, in display pixels. Its left and top edges are the origin of what the window is sent. The
+    /// whole frame says where the window lies over windows of other owners.
     pub frame: Rect,
     /// Where the window can be touched, in display pixels.
     pub region: Region,

@@ -55,7 +55,7 @@ impl Events {
     ghost use Rattle.workload_maker.specs.Making.{at_stage};
     ghost use Rattle.workload_maker.specs.Numbers.{drawn_after};
 
-    /// The events of so many packets of so many fingers.
+    /// The events of this many packets of this many fingers.
     pub(crate) fn new(seed: u32, packets: u32, fingers: u8) -> Events
         requires few_packets { packets ≤ 200000 }
         requires some_finger { 1 ≤ fingers }

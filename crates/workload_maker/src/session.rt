@@ -45,7 +45,7 @@ fn displays(alloc: Global) -> Result<Vec<Display>, AllocError>
     Vec::from_slice(alloc, &[display])
 }
 
-/// The devices: the touch device alone.
+/// The devices: only the touch device.
 fn devices(alloc: Global) -> Result<Vec<DevicePlan>, AllocError>
     ensures value { IfOk result (λ v. map device_view v.items ≡ touch_device ∷ []) }
     ensures len { IfOk result (λ v. length v.items ≡ 1) }

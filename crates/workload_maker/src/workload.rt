@@ -17,9 +17,9 @@ pub const MAX_PACKETS: u32 = 200_000;
 /// The most fingers of a workload, as many as its touch device has slots.
 pub const MAX_FINGERS: u8 = 16;
 
-/// The session of a workload, and the events of its touch device: so many packets, each about one of so many fingers.
-/// Any seed will do; seeds that differ by 2,147,483,646 give the same. The events are made as they are asked for, and
-/// only the session takes memory.
+/// The session of a workload, and the events of its touch device: this many packets, each about one of this many
+/// fingers. Any seed will do; seeds that differ by 2,147,483,646 give the same. The events are made as they are asked
+/// for, and only the session takes memory.
 pub fn make(
     alloc: Global,
     seed: u32,

@@ -47,10 +47,10 @@ impl Ids {
 
     /// The pointers of the next packet, in rising id, and the ids that are cancelled in it.
     ///
-    /// A finger is a contact that is no palm, and only fingers are pointers. A finger keeps its id while its tracking
-    /// id is that of a finger in successive packets. Each new finger, in slot order, gets the least id that no finger
-    /// of the packet before has and that no new finger of a lower slot got. AOSP's touch mapper gives its ids in this
-    /// way. An id of the packet before is cancelled where its tracking id is that of a palm now; no finger gets it in
+    /// A finger is a contact that is no palm, and only fingers are pointers. A finger keeps its id as long as its
+    /// tracking id is that of a finger in successive packets. Each new finger, in slot order, gets the least id that no
+    /// finger of the packet before has and that no new finger of a lower slot got. AOSP's touch mapper gives its ids in
+    /// this way. An id of the packet before is cancelled if its tracking id is that of a palm now; no finger gets it in
     /// this packet.
     pub fn assign(&mut self, now: &Contacts) -> Assigned
         ensures pointers { result.pointers ≡ assigned (named_in self.old now.now) }
@@ -65,8 +65,8 @@ impl Ids {
         pointers
     }
 
-    /// The slot of each pointer that `assign` answered, at the pointer's index, given the contacts of that packet, none
-    /// of which is a palm.
+    /// The slot of each pointer that `assign` returned, at the pointer's index, given the contacts of that packet. None
+    /// of these may be a palm.
     pub fn slots(&self, now: &Contacts, pointers: &Assigned) -> [u8; 16]
         ensures many { length result ≡ 16 }
         ensures slots { (i : ℕ) → i < length pointers.now.pointers → get_or result i 0
@@ -88,7 +88,7 @@ impl Ids {
     }
 }
 
-/// The slot of the finger with an id, where the contact of each finger is at its place.
+/// The slot of the finger with an id, if the contact of each finger is at the finger's index.
 fn slot_of(named: &[Named], now: &[Contact], id: PointerId) -> u8
     ensures { result ≡ slot_of id named.now now.now }
 {
@@ -103,7 +103,7 @@ fn slot_of(named: &[Named], now: &[Contact], id: PointerId) -> u8
     0
 }
 
-/// Names the fingers of the next packet, and answers the ids that are cancelled in it.
+/// Gives the fingers of the next packet their ids, and returns the ids that are cancelled in it.
 fn name_next(last: &mut NamedList, now: &Contacts) -> Bits32
     ensures last { last.new ≡ named_in last.old now.now }
     ensures cancelled { (k : ℕ) → is_in k result ≡ is_cancelled last.old now.now k }

@@ -30,7 +30,7 @@ fn is_same(finger: &Named, contact: &Contact) -> bool
     finger.tracking == contact.tracking && !contact.palm
 }
 
-/// Puts the fingers where a packet has them, where they only moved.
+/// Moves the fingers to where a packet has them, if they only moved.
 pub(crate) fn move_fingers(named: &mut NamedList, now: &Contacts)
     requires { same_fingers named.old now.now ≡ true }
     ensures { named.new ≡ named_in named.old now.now }

@@ -5,7 +5,7 @@
 pub enum Change {
     /// Nothing.
     Nothing,
-    /// The contact of this slot, where the slot holds one, may be elsewhere. The others are as before.
+    /// The contact of this slot, if the slot holds one, may be elsewhere. The others are as before.
     Position(u8),
     /// A tracking id was written: other contacts may be there.
     Contacts,

@@ -9,7 +9,7 @@ use crate::slot_accumulator::palms::{Palms, is_kept};
 use crate::slot_accumulator::slots::Row;
 use raw_events::codes::{ABS_MT_TOOL_TYPE, MT_TOOL_PALM};
 
-/// Whether the tool type of a slot of some is that of a palm, after an event of this code was written to them.
+/// Whether some slot has the tool type of a palm, after an event with this code was written to these slots.
 pub(crate) fn tool_after(code: u16, before: bool, rows: &[Row]) -> bool
     ensures { result ≡ (if nat_eq code 55 then list_any (λ r. has_palm_tool r) rows.now else before) }
 {
@@ -20,8 +20,8 @@ pub(crate) fn tool_after(code: u16, before: bool, rows: &[Row]) -> bool
     }
 }
 
-/// Notes the tracking ids of the palms among the contacts of some slots, given those of the packet before. Nothing
-/// changes where there is none.
+/// Records the tracking ids of the palms among the contacts of some slots, given those of the packet before. Nothing
+/// changes if there are none.
 pub(crate) fn note_palms(rows: &[Row], palm_tool: bool, noted: &mut Palms)
     requires few { length rows.now ≤ 16 }
     requires tool { palm_tool ≡ false → list_any (λ r. has_palm_tool r) rows.now ≡ false }
@@ -35,7 +35,7 @@ pub(crate) fn note_palms(rows: &[Row], palm_tool: bool, noted: &mut Palms)
     *noted = palms(rows, noted);
 }
 
-/// Whether no slot can hold a palm: there was none before, and no tool type is that of one.
+/// Whether no slot can hold a palm: there was none before, and no tool type is that of a palm.
 pub(crate) fn no_palm(palm_tool: bool, before: &Palms) -> bool
     ensures { result ≡ (nat_eq (length before.now) 0 && not palm_tool) }
 {

@@ -32,8 +32,8 @@ pub struct Row {
 
 /// The slots of one device, as its events leave them. It is `Copy` and takes no memory.
 ///
-/// Contracts see the number of slots, the current slot, the rows of 16 slots, of which those of the device count, and
-/// the tracking ids that were those of palms at the end of the last packet.
+/// Contracts see the number of slots, the current slot, the rows of 16 slots, of which only those of the device count,
+/// and the tracking ids that belonged to palms at the end of the last packet.
 #[derive(Clone, Copy, Debug, PartialEq, Eq)]
 pub struct Slots {
     rows: [Row; 16],
@@ -118,7 +118,7 @@ impl Slots {
         let _ = self.write(&event);
     }
 
-    /// Takes an event that ends no packet, and answers what it changes among the contacts.
+    /// Takes an event that ends no packet, and returns what it changes among the contacts.
     #[inline(always)]
     pub fn write(&mut self, event: &RawEvent) -> Change
         requires { ends_packet event.now ≡ false }
@@ -156,7 +156,7 @@ impl Slots {
         Change::Nothing
     }
 
-    /// Takes a SYN_REPORT: notes the palms, and answers whether there may be one. Where not, no contact is a palm, none
+    /// Takes a SYN_REPORT: records the palms, and returns whether there may be one. If not, no contact is a palm, none
     /// was one at the end of the packet before, and nothing changes.
     #[inline(always)]
     pub fn end_packet(&mut self) -> bool
@@ -175,7 +175,7 @@ impl Slots {
     }
 
     /// The contacts now: the slots of the device whose tracking id is not negative and is that of no lower slot, each
-    /// with whether it was noted as a palm. After a SYN_REPORT they are the contacts at the end of its packet.
+    /// with whether it was recorded as a palm. After a SYN_REPORT they are the contacts at the end of its packet.
     pub fn contacts(&self) -> Contacts
         ensures now { result ≡ contacts_of (row_in self.now.rows) (λ t. is_kept self.now.palms t) self.now.slots }
         ensures events { (past : List Event) → SlotsStandFor past self.now → result ≡ contacts_at self.now.slots past }

@@ -39,10 +39,11 @@ impl Cook {
     /// The greatest width or height of a display, in pixels.
     pub const MAX_EXTENT: u16 = 16_384;
 
-    /// The axes of a device, the width and height of its display in its natural position, and how far that is turned.
+    /// The axes of a device, the width and height of its display in its natural position, and how far the display is
+    /// turned.
     ///
-    /// `BadRange` comes exactly where an axis has its greatest position below its least, or where the width or the
-    /// height is not 1 to 16,384.
+    /// `BadRange` comes exactly if an axis has its greatest position below its least, or if the width or the height is
+    /// not 1 to 16,384.
     pub fn new(
         x: Axis,
         y: Axis,
@@ -111,8 +112,8 @@ fn place(axis: &Axis, extent: u16, raw: i32) -> u16
     share(above, extent, positions)
 }
 
-/// How many of so many pixels are below a position, where as many positions are below it. Most axes have as many
-/// positions as the display has pixels, and then nothing is divided.
+/// The pixel of a raw position, given how many of the axis' positions are below it. Most axes have as many positions as
+/// the display has pixels, and then nothing is divided.
 #[inline(always)]
 #[tactic(auto, using(crate::proofs::TouchMapper::Shares::share_less, crate::proofs::TouchMapper::Shares::share_same))]
 fn share(below: u64, extent: u16, positions: u64) -> u16

@@ -39,7 +39,7 @@ pub fn gesture(
     push_downs(given, device, last.as_slice(), now);
 }
 
-/// Puts a move of all pointers that are down behind the others, where there are some.
+/// Appends a move of all pointers that are down, if there are any.
 pub fn put_move(given: &mut Vec<Args>, device: DeviceId, now: &Pointers)
     requires { vec_len given.old < vec_capacity given.old }
     ensures { given.new.items ≡ given.old.items ++ as_args (move_of device now.now) }
@@ -78,7 +78,7 @@ fn push_ups(
     }
 }
 
-/// Those that stay move, where one has another pixel.
+/// Appends a move of the pointers that stay, if one has another pixel.
 fn push_move(given: &mut Vec<Args>, device: DeviceId, last: &[Pointer], now: &Pointers)
     requires { vec_len given.old < vec_capacity given.old }
     ensures items { given.new.items ≡ given.old.items ++ as_args (moves device last.now now.now) }

@@ -95,7 +95,7 @@ impl Gestures {
         self.last.move_to(i, self.cook.pixel(x, y));
     }
 
-    /// Adds the `Move` of all pointers that are down, where there are some: what `next` adds for a packet with the same
+    /// Adds the `Move` of all pointers that are down, if there are any: what `next` adds for a packet with the same
     /// pointers.
     #[inline(always)]
     pub fn put_move(&self, given: &mut Vec<Args>)

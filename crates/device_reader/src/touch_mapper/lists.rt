@@ -75,7 +75,7 @@ pub fn at_pixel(cook: &Cook, held: &Held) -> Pointer
     }
 }
 
-/// Where a pointer is in a list, else where it was.
+/// The pointer's position in a list, or else the one that it had.
 pub fn moved(now: &[Pointer], pointer: &Pointer) -> Pointer
     ensures { result ≡ moved_in now.now pointer.now }
 {

@@ -36,7 +36,7 @@ sends t c body heard o clock x s j i from hears is was tracked within =
       anrs_are = refl;
     }
 
--- what is kept of a window that was told that pointers move
+-- what is kept of a window that was sent that pointers move
 pub moved : (d : ℕ) (ps : List Pointer) (j i : Tracked) → Tracks j i (MotionBody (plain d Move ps)) → pointers_of i d ≡ ps
 moved d ps j i h = h.pointers_are d ∙ ap (λ b. if b then ps else pointers_of j d) (eq-eqb d d refl)
 

@@ -1,4 +1,4 @@
--- What windows are told of a Move with which no pointer changes hands, with values written by hand.
+-- What windows are sent for a Move with which no pointer changes hands, with values written by hand.
 use Rattle.std.specs.Prelude.{◌≡◌, ℕ, true, false, List, [], ◌∷◌, Some, None, pos, refl}
 use Rattle.input_types.specs.declared.message.Body.TheVariants.{Motion as MotionBody}
 use Rattle.input_types.specs.declared.motion.Motion.{Motion}

@@ -26,7 +26,7 @@ or_none : (xs : List Motion) → or_else xs [] ≡ xs
 or_none [] = refl
 or_none (x ∷ xs) = refl
 
--- a window that holds still what it held is told that this moves, as far as it is listed
+-- a window that holds still what it held is sent that this moves, as far as it is listed
 pub still_moves : (s : Scene) (m : Motion) (w : ℕ) (held : ℕ → Bool) → m.action ≡ Move
     → sent_motion s m (changed m) w held held ≡ moves m.device (listing held m.pointers)
 still_moves s m w held is = by_changed (changed m)

@@ -57,7 +57,7 @@ pub both_reached : (a b rest w : ℕ) → rest ≡ 0 → mask_has a w ≡ true �
 both_reached a b rest w none p q =
     ap (λ n. reached (bit_and a b) n w) none ∙ all_reached (bit_and a b) w ∙ mask_has-and a b w ∙ ap₂ (λ x y. x && y) p q
 
--- a channel is told what is said in the round in a scene
+-- a channel is sent what is said in the round in a scene
 abbrev pub IsSentAt : CoverTable → Round → List Pixel → ℕ → (t v : Table) → Scene → Step → ℕ → Type 0
 IsSentAt covers r origins clock t v s e c =
     (channel_of v c ≡ heard (sent_in covers r s e c) (origin_at origins c) clock (channel_of t c))
@@ -233,7 +233,7 @@ published_left covers r us o mask origins clock t u v p q c from out = (
   ap (λ is. input_of (record u { inputs = is }) c) q.inputs_are ∙ (p.stays c from out).1,
 )
 
--- nothing is let go where channels are published
+-- nothing is released where channels are published
 pub published_gone : (mask clock : ℕ) (t u : Table) → Publishes mask clock t u → (c : ℕ) → 1 ≤ c → (channel_of u c).gone ≡ (channel_of t c).gone
 published_gone mask clock t u h c low =
     ap (λ s. s.gone) (h.channels_are c low) ∙ by_test (mask_has mask c && mask_has t.live c)

@@ -117,7 +117,7 @@ pub heard-unfinished : (xs : List Body) (o : Pixel) (now : ℕ) (s : ChannelStat
 heard-unfinished [] o now s = refl
 heard-unfinished (x ∷ xs) o now s = heard-unfinished xs o now (enqueued (body_from o x) now s)
 
--- no message is let go
+-- no message is released
 pub heard-gone : (xs : List Body) (o : Pixel) (now : ℕ) (s : ChannelState) → (heard xs o now s).gone ≡ s.gone
 heard-gone [] o now s = refl
 heard-gone (x ∷ xs) o now s = heard-gone xs o now (enqueued (body_from o x) now s)

@@ -35,7 +35,7 @@ pub say_next : (to : Listener) (b : Body) (all rest : List Body) (t u v : Table)
     → all ≡ b ∷ rest → SendsOne to (b ∷ []) t u → SendsOne to rest u v → SendsOne to all t v
 say_next to b all rest t u v e p q = subst (λ (bs : List Body). SendsOne to bs t v) (sym e) (sends_then to (b ∷ []) rest t u v p q)
 
--- nothing is left to tell
+-- nothing is left to send
 pub say_rest : {A : Type 0} (to : Listener) (f : List A → List Body) (xs : List A) (i : ℕ) (t : Table)
     → length xs ≤ i → f [] ≡ [] → SendsOne to (f (drop i xs)) t t
 say_rest to f xs i t le e = subst (λ (bs : List Body). SendsOne to bs t t) (sym (ap f (drop_all i xs le) ∙ e)) (sends_none to t)

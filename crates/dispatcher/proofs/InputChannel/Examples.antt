@@ -53,7 +53,7 @@ late = refl
 pub in_time_again : has_late 5000000 (finished_with 1 outgoing) ≡ false
 in_time_again = refl
 
--- what was let go keeps its number, and its delivery until it is finished
+-- what was released keeps its number, and its delivery until it is finished
 pub next_number : sent (release_of outgoing) ≡ 2
 next_number = refl
 
@@ -63,7 +63,7 @@ nothing_is_kept = refl
 pub delivery_is_kept : oldest_of (release_of outgoing) ≡ Some (1, 0)
 delivery_is_kept = refl
 
--- of the second message, which was not received, nothing is kept once all are let go, and it is handed out no more
+-- of the second message, which was not received, nothing is kept once all are released, and it is handed out no more
 abbrev pub untaken : ChannelState
 untaken = enqueued (Focus false) 9 (received_next (published_at 0 (enqueued (Focus true) 0 (opened_with 5000000))))
 
@@ -89,7 +89,7 @@ it_is_passed = refl
 pub nothing_more_is_passed : passed (passed (published_at 9 (each_released untaken))) ≡ passed (published_at 9 (each_released untaken))
 nothing_more_is_passed = refl
 
--- what was let go already stays so
+-- what was released already stays so
 pub gone_stays : (release_of (all_released untaken)).gone ≡ 2
 gone_stays = refl
 

@@ -95,7 +95,7 @@ a_window_that_is_no_spy_does_not_pilfer = refl
 a_channel_is_removed_once : reply_by (kept 2 []) (Remove 1100000 2) ≡ Gone
 a_channel_is_removed_once = refl
 
--- ---- what waits, and what is told of keys
+-- ---- what waits, and what is sent for keys
 
 args_that_are_taken_wait_last : waiting_after (Notify 1100000 (Reset 2)) Taken (Reset 1 ∷ []) ≡ Reset 1 ∷ Reset 2 ∷ []
 args_that_are_taken_wait_last = refl

@@ -1,4 +1,4 @@
--- No message is let go, and no naming.
+-- No message is released, and no ANR.
 use Rattle.std.proofs.Common.{◌≡◌, ◌-◌, ℕ, zero, suc, nat_lt, Bool, true, false, cond, List, [], ◌∷◌, ◌++◌, get_or, set, refl, sym, ap, ◌∙◌}
 use Rattle.dispatcher.specs.InputChannel.State.{ChannelState, opened_with, received_one, passed}
 use Rattle.dispatcher.specs.DispatchChannels.Table.{Table, channel_of, with_channel, but_for_room}
@@ -22,7 +22,7 @@ room_gone t u same =
       of_anrs = ap (λ x. x.anrs.gone) same;
     }
 
--- where one channel changes, of which none are let go
+-- where one channel changes, of which none are released
 set_gone : (ss : List ChannelState) (i j : ℕ) (s d : ChannelState) → s.gone ≡ (get_or ss i d).gone → (get_or (set ss i s) j d).gone ≡ (get_or ss j d).gone
 set_gone [] i j s d h = refl
 set_gone (x ∷ xs) zero zero s d h = h

@@ -45,7 +45,7 @@ input_first ds es w input l n unsent no_keys =
       keys_are = subst (λ ks. KeysAre es w ks) (sym no_keys) (keys_at_first ds es w l n);
     }
 
--- ---- a step that tells nothing
+-- ---- a step that sends nothing
 
 none_of : {X : Type 0} (xs ys : List X) → xs ++ ys ≡ [] → (xs ≡ []) × (ys ≡ [])
 none_of [] ys e = (refl, e)

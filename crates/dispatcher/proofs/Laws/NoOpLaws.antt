@@ -1,4 +1,4 @@
--- Steps that tell nobody anything.
+-- Steps that send nobody anything.
 use Rattle.std.proofs.Common.{◌≡◌, ◌≤◌, ℕ, ◌&&◌, ◌||◌, not, Bool, true, false, cond, List, [], ◌∷◌, ◌++◌, filter, filter_map, None, refl, sym, ap, ◌∙◌, subst}
 use Rattle.std.proofs.Math.Path.{fun_ext}
 use Rattle.std.proofs.lemmas.Bool.{true≢false, and_parts}
@@ -57,7 +57,7 @@ use Rattle.dispatcher.proofs.Laws.ShownLaws.{touches_scene_law}
 use Rattle.dispatcher.proofs.Laws.Inputs.{input_quiet, repeat_quiet}
 use Rattle.dispatcher.proofs.Laws.Knowing.{stands_next}
 
--- a step that leaves windows and who is live as they are, requests no focus, and tells nobody anything
+-- a step that leaves windows and who is live as they are, requests no focus, and sends nobody anything
 pub record Still (call : Call) (answer : Reply) : Type 0 where
   pub windows : (ws : List Window) → windows_after call ws ≡ ws
   pub origins : (w : ℕ) (p : Pixel) → origin_after call w p ≡ p
@@ -128,7 +128,7 @@ pilfering_holds : (ms : List RuleMark) (w d : ℕ) → pilfering ms w d ≡ true
 pilfering_holds [] w d e = absurd (true≢false (sym e))
 pilfering_holds (m ∷ ms) w d e = (and_parts (has_any (held (m ∷ ms)) w d) (pilfers m.taken w d || pilfering ms w d) e).0
 
--- tables that follow the marks are, as they are, the tables after a step that rests
+-- tables that follow the marks are, as they are, the tables after a no-op
 pub no_op_as_is : (ms : List RuleMark) (ts : List Touches) (place : ℕ) → Follows ms ts → TakesMark NoOpMark place ts ts
 no_op_as_is ms ts place f d =
     unchanged (table_of ts d) none

@@ -1,4 +1,4 @@
--- What is kept stands for the same history with other room, and once messages or namings are let go.
+-- What is kept stands for the same history with other room, and once messages or ANRs are released.
 use Rattle.std.proofs.Common.{◌≡◌, ◌≤◌, ◌-◌, ◌==◌, ℕ, Bool, true, false, cond, List, length, slice_index_or, refl, sym, ap, ◌∙◌, subst}
 use Rattle.std.proofs.lemmas.Bool.{eq-eqb, eqb-true}
 use Rattle.std.proofs.lemmas.List.{length-map}

@@ -16,11 +16,11 @@ use Rattle.dispatcher.specs.Dispatching.{Dispatching, IsAfter, StandsFor}
 pub after_of : (es : List Effect) (d : Dispatching) → StandsFor es d → IsAfter es d
 after_of es d s = record { lawful = s.lawful; rise = s.rise; knows = s.knows }
 
--- and stands for it, where only messages that may be let go were
+-- and stands for it, where only messages that may be released were
 pub stands_of : (es : List Effect) (d : Dispatching) → IsAfter es d → ((c : ℕ) → 1 ≤ c → MayGo es c (gone d c)) → StandsFor es d
 stands_of es d a may = record { lawful = a.lawful; rise = a.rise; knows = a.knows; may_go = may }
 
--- before the first call nothing was let go
+-- before the first call nothing was released
 pub stands_first : (d : Dispatching) → IsAfter [] d → ((c : ℕ) → 1 ≤ c → gone d c ≡ 0) → StandsFor [] d
 stands_first d a none = stands_of [] d a (λ c low. subst (MayGo [] c) (sym (none c low)) (none_may_go [] c))
 
@@ -49,12 +49,12 @@ pub stands_answered : {E : Type 0} (call : Call) (r : Result Reply E) (es : List
 stands_answered call (Ok answer) es d later s same kept h = stands_on call answer es d later s same kept h
 stands_answered call (Err e) es d later s same kept h = tt
 
--- where as many were let go as before
+-- where as many were released as before
 pub stands_same : (es : List Effect) (d later : Dispatching) → StandsFor es d → ((c : ℕ) → 1 ≤ c → gone later c ≡ gone d c)
     → IsAfter es later → StandsFor es later
 stands_same es d later s kept a = stands_of es later a (λ c low. subst (MayGo es c) (sym (kept c low)) (s.may_go c low))
 
--- where of one channel others were let go that may be
+-- where of one channel others were released that may be
 pub stands_but : (es : List Effect) (d later : Dispatching) (k : ℕ) → StandsFor es d → MayGo es k (gone later k)
     → ((c : ℕ) → 1 ≤ c → (c == k) ≡ false → gone later c ≡ gone d c)
     → IsAfter es later → StandsFor es later

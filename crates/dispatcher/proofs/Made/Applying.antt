@@ -53,7 +53,7 @@ seen_same old new h =
       repeat = (h.routing_is.0 i).repeat;
     }
 
--- of what stands for a history no message was let go that is to be handed out
+-- of what stands for a history no message was released that is to be handed out
 pub may_hand : (es : List Effect) (t : Tables) (call : Call) → StandsFor es (seen t) → MayHand es (kept t.queueing t.routing) call
 may_hand es t (Receive c) s = λ lives.
     let number = live_number t.routing.displays es c s.lawful lives in

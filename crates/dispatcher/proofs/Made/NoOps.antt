@@ -1,4 +1,4 @@
--- Calls that tell nobody anything.
+-- Calls that send nobody anything.
 use Rattle.std.proofs.Common.{◌≡◌, ℕ, max, Bool, true, false, not, nat_lt, cond, List, ◌-◌, None, refl, sym, ap, ◌∙◌, subst, lit<, if◌then◌else◌}
 use Rattle.std.proofs.lemmas.List.{set-get_or}
 use Rattle.window_snapshot.specs.Mask.{mask_has}
@@ -40,7 +40,7 @@ stays_but : (call : Call) (answer : Reply) (queue later : Queue) (old : Routing)
 stays_but call answer queue later old u goes inputs =
     record { queue = goes; shown_is = refl; touches_are = refl; covers_are = refl; inputs_are = inputs; focus_is = refl; repeat_is = refl }
 
--- a step that rests
+-- a no-op
 pub rested : (call : Call) (answer : Reply) (es : List Effect) (queue later : Queue) (old : Routing)
     → KeptStandsFor old.displays es (kept queue old) → QueueGoes call answer queue later
     → answer ≡ reply_to es call → RisesIn call → is_no_op call answer ≡ true

@@ -1,4 +1,4 @@
--- Messages and namings that are let go.
+-- Messages and ANRs that are released.
 use Rattle.std.proofs.Common.{◌≡◌, ◌≤◌, ◌-◌, ◌==◌, nat_le, ℕ, max, true, false, List, length, refl, sym, ap, ◌∙◌, subst, arith}
 use Rattle.std.proofs.lemmas.List.{get_or-set_same, get_or-set_other}
 use Rattle.std.proofs.lemmas.Bool.{true≢false, eq-eqb, and_parts, leb-true}
@@ -20,7 +20,7 @@ use Rattle.dispatcher.specs.declared.tables.Tables.{Tables}
 use Rattle.dispatcher.specs.Tables.{TablesStandFor, kept}
 use Rattle.dispatcher.proofs.Room.Rooms.{channel_bare}
 
--- the tables stand for what they stood for, where a channel keeps what it kept but for messages that may be let go
+-- the tables stand for what they stood for, where a channel keeps what it kept but for messages that may be released
 lets_go : (es : List Effect) (old : Tables) (u : Table) (c : ℕ) (s : ChannelState) → TablesStandFor es old → 1 ≤ c → c ≤ opened old.routing.channels
     → Holds es c s → u ≡ with_channel c s old.routing.channels
     → TablesStandFor es (record old { routing = record old.routing { channels = u } })
@@ -82,7 +82,7 @@ received_gone es old u c stands low high is =
     ∙ ap (λ n. max (channel_of t c).gone n) (ap (λ x. x.received) keeps.is)
     ∙ ap (λ n. max n (received (past_of es) c)) (sym (ap (λ x. x.gone) (channel_bare t c)))
 
--- of a live channel only those that were received were let go
+-- of a live channel only those that were received were released
 pub live_gone : (es : List Effect) (old : Tables) (u : Table) (c : ℕ) → TablesStandFor es old → 1 ≤ c → c ≤ opened old.routing.channels
     → (channel_of old.routing.channels c).gone ≤ received (past_of es) c
     → u ≡ with_channel c (release_of (channel_of old.routing.channels c)) old.routing.channels
@@ -130,7 +130,7 @@ pub is_live : (es : List Effect) (old : Tables) (c : ℕ) → TablesStandFor es 
     → mask_has old.routing.channels.live c ≡ true → ⊥
 is_live es old c stands dead lives = true≢false (sym lives ∙ ap (λ f. f c) stands.knows.delivery.live_is ∙ dead)
 
--- the namings are let go
+-- the ANRs are released
 pub anrs_go : (es : List Effect) (old : Tables) (u : Table) → TablesStandFor es old
     → u ≡ record old.routing.channels { anrs = noted_gone old.routing.channels.anrs }
     → TablesStandFor es (record old { routing = record old.routing { channels = u } }) × (u.anrs.gone ≡ length (anrs es))
@@ -144,7 +144,7 @@ anrs_go es old u stands is =
     (ap input_of is)
     is
 
--- so many messages of a channel may have been let go
+-- so many messages of a channel may have been released
 pub most_gone : (es : List Effect) (d : Dispatching) (c : ℕ) → StandsFor es d → is_opened es c ≡ true → MayGo es c (gone d c)
 most_gone es d c stands there = stands.may_go c (leb-true 1 c (and_parts (nat_le 1 c) _ there).0)
 

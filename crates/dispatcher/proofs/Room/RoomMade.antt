@@ -1,4 +1,4 @@
--- Room for what pumps tell is made, one channel after another, and kept where messages are let go.
+-- Room for what pumps send is made, one channel after another, and kept where messages are released.
 use Rattle.std.proofs.Common.{◌≡◌, ◌≢◌, ◌*◌, max, ◌≤◌, ◌<◌, ◌+◌, ◌-◌, ◌^◌, ◌==◌, ℕ, true, cond, length, refl, sym, ap, ◌∙◌, subst, inl, inr, arith}
 use Rattle.std.proofs.lemmas.Bool.{cases_eq, eq-eqb, ne_eqb}
 use Rattle.std.proofs.lemmas.List.{get_or-set_same}
@@ -89,7 +89,7 @@ opened_same old new same =
 pub live_same : (old new : Routing) → SameButRoom old new → new.channels.live ≡ old.channels.live
 live_same old new same = ap (λ (r : Routing). r.channels.live) same.0
 
--- a channel of which messages are let go keeps its room, where it is live
+-- a channel of which messages are released keeps its room, where it is live
 pub release_room : (n c : ℕ) (r : Routing) (u : Table) (s : ChannelState) → u ≡ with_channel c s r.channels → 1 ≤ c → c ≤ opened r.channels
     → (mask_has r.channels.live c ≡ true → s.spare ≡ (channel_of r.channels c).spare)
     → HasPumpRoom n r → HasPumpRoom n (record r { channels = u })

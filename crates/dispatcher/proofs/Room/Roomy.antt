@@ -1,4 +1,4 @@
--- Room for what pumps tell is there still after a round, for one pump less.
+-- Room for what pumps send is there still after a round, for one pump less.
 use Rattle.std.proofs.Common.{◌≡◌, ◌≤◌, ◌+◌, ◌-◌, ◌==◌, ℕ, zero, suc, Bool, true, false, not, cond, List, [], ◌∷◌, length, map, filter, Option, Some, None, unwrap_or, refl, sym, ap, ◌∙◌, subst, inl, inr, arith}
 use Rattle.std.proofs.lemmas.Bool.{eq-eqb, ne_eqb, cases_eq, cases_Bool}
 use Rattle.std.proofs.lemmas.List.{length-map}
@@ -25,7 +25,7 @@ use Rattle.dispatcher.specs.Keying.{only_live}
 use Rattle.dispatcher.specs.Roomy.{HasRoomFor, IsRoomy, IsModest, AreModest, HasPumpRoom, KeepsPromise}
 use Rattle.dispatcher.proofs.Room.Rooms.{input_bare}
 
--- ---- what is told of keys
+-- ---- what is sent for keys
 
 keep_length : (m : KeyMsg) (ls : List KeyMsg) → length (with_key m ls) ≤ length ls + 1
 keep_length m [] = omega arith
@@ -116,7 +116,7 @@ pub keys_same : (t u : Table) (c : ℕ) → but_for_room u ≡ but_for_room t �
 keys_same t u c same =
     sym (ap (λ (i : Tracked). i.keys) (input_bare u c)) ∙ ap (λ x. (input_of x c).keys) same ∙ ap (λ (i : Tracked). i.keys) (input_bare t c)
 
--- there is room for as much as a round tells
+-- there is room for as much as a round sends
 pub most_room : (n list : ℕ) (r : Round) (t : Table) → IsRoomy (suc n) list t → AreModest r.target r.keys.now t
     → (w : ℕ) → mask_has t.live w ≡ true → HasMostRoom r t w
 most_room n list r t roomy modest w lives =

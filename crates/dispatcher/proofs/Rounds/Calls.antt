@@ -1,4 +1,4 @@
--- Calls that tell windows, and leave the windows and the focus as they are.
+-- Calls that send windows something, and leave the windows and the focus as they are.
 use Rattle.std.proofs.Common.{◌≡◌, ℕ, max, Bool, true, false, not, ◌&&◌, List, [], ◌∷◌, slice_get, Option, Some, None, refl, sym, ap, ◌∙◌, subst}
 use Rattle.input_types.specs.declared.key.KeyMsg.{KeyMsg}
 use Rattle.input_types.specs.declared.message.Args.{Args}
@@ -112,7 +112,7 @@ dispatches : (ws : List Args) (a : Args) (due : Option ℕ) (at : ℕ) → slice
 dispatches [] a due at e = absurd (cc e)
 dispatches (w ∷ ws) a due at e = refl
 
--- a pump of args that tells windows
+-- a pump of args that sends windows something
 pub pumped : (es : List Effect) (now : ℕ) (a : Args) (queue later : Queue) (place clock : ℕ) (old : Routing) → slice_get queue.waiting 0 ≡ Some a → queue.place ≡ place
     → max now queue.clock ≡ clock → KeptStandsFor old.displays es (kept queue old) → QueueGoes (Pump now) Dispatched queue later
     → Outgoing old.displays (Pump now) Dispatched es queue later place clock old

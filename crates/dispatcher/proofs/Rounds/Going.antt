@@ -36,7 +36,7 @@ use Rattle.dispatcher.specs.Carrying.{TakesMark, SendsRound, IsOf}
 use Rattle.dispatcher.specs.Keying.{target_number}
 use Rattle.dispatcher.specs.Tables.{kept}
 
--- a step that tells windows, of tables that stand for a history
+-- a step that sends windows something, of tables that stand for a history
 pub record Outgoing
     (ds : List ℕ) (call : Call) (answer : Reply) (es : List Effect) (queue later : Queue) (place clock : ℕ) (old : Routing) : Type 0 where
   pub place_is : queue.place ≡ place

@@ -60,7 +60,7 @@ keyed_one (Some u) alive outgoing t keys e h =
     let at : t ≡ u = cc same in
     h ∙ ap outgoing at
 
--- what the key target is told of these args, where they are dispatched
+-- what the key target is sent for these args, where they are dispatched
 abbrev sent_by : Routing → Option Args → (now t : ℕ) → List KeyMsg
 sent_by old o now t =
     target_sent (Pump now) Dispatched o t (mask_has old.channels.able t) (is_at (target_of old.focus) t) (input_of old.channels t).keys old.repeat
@@ -86,7 +86,7 @@ args_sent old new place clock a mark keys es now queue later some first at clk s
     (st some.round.watchers)
     (still_gift old.displays (Pump now) Dispatched es old some.round mark (target_number old.focus) keys 0 0 some.is (st some.round.watchers))
 
--- a round that tells nobody anything, and with which no pointer changes hands
+-- a round that sends nobody anything, and with which no pointer changes hands
 abbrev silent_round : (target : ℕ) → Round
 silent_round target = record { mark = NoOp; motion = None; gift = None; watchers = 0; target = target; keys = record { ref_ptr = (0, 0); now = [] }; lost = 0; gained = 0 }
 

@@ -1,4 +1,4 @@
--- What a round tells of keys.
+-- What a round sends for keys.
 use Rattle.std.proofs.Common.{◌≡◌, ℕ, ◌==◌, Bool, true, false, cond, List, [], Option, Some, None, refl, sym, ap, ◌∙◌, subst, inl, inr}
 use Rattle.std.proofs.lemmas.Bool.{cases_eq, eq-eqb, ne_eqb}
 use Rattle.input_types.specs.declared.key.KeyMsg.{KeyMsg}
@@ -29,7 +29,7 @@ use Rattle.dispatcher.proofs.Laws.Inputs.{target_live}
 pub target_is : (es : List Effect) (f : FocusState) (o : Option ℕ) → FocusIs es f → target_of f ≡ o → key_target (past_of es) ≡ o
 target_is es f o is e = sym (focus_read es f is).2 ∙ e
 
--- the key target is told what is found by what is kept
+-- the key target is sent what is found by what is kept
 target_messages : (ds : List ℕ) (call : Call) (answer : Reply) (es : List Effect) (k : Kept) (later : FocusState) (t : ℕ) → Lawful ds (step ds call answer es)
     → KeptStandsFor ds es k → FocusIs (step ds call answer es) later → target_of k.focus ≡ Some t → live (past_of (step ds call answer es)) t ≡ true
     → key_messages call answer es t ≡ sent_target call answer k later t
@@ -45,7 +45,7 @@ target_messages ds call answer es k later t l s next e lives =
     ∙ ap (λ b. target_sent call answer (args_of call answer k.queue.waiting) t b (is_target h t) held k.repeat) (ap (λ f. f t) (sym s.knows.delivery.able_is))
     ∙ ap (λ b. target_sent call answer (args_of call answer k.queue.waiting) t (mask_has k.delivery.able t) b held k.repeat) stays
 
--- each window is sent the key messages that the round tells it
+-- each window is sent the key messages that the round sends it
 pub keys_round : (ds : List ℕ) (call : Call) (answer : Reply) (es : List Effect) (k : Kept) (later : FocusState) (alive channel : ℕ) (keys : List KeyMsg) (w : ℕ)
     → Lawful ds (step ds call answer es) → KeptStandsFor ds es k → FocusIs (step ds call answer es) later
     → ((c : ℕ) → mask_has alive c ≡ live (past_of (step ds call answer es)) c)

@@ -38,7 +38,7 @@ use Rattle.dispatcher.specs.Needing.{LeavesFocus}
 use Rattle.dispatcher.specs.Showing.{Shows, origins_from}
 use Rattle.dispatcher.proofs.Rounds.Calls.{target_lives, no_focus_sent, not_both}
 
--- what the key target is told that is another one after the step
+-- what the key target is sent if another one is it after the step
 keyed_lost : (o after : Option ℕ) (alive : ℕ) (t : Table)
     → Keyed o alive (λ w. if is_at after w then [] else keys_cancelled (input_of t w).keys) (cancelled_of (if_lost after (only_live alive o)) t)
 keyed_lost None after alive t = refl
@@ -49,7 +49,7 @@ keyed_lost (Some w) after alive t = λ lives. ap (λ b. cancelled_of (if_lost af
     by_test true e = ap (λ b. cancelled_of (cond b None (Some w)) t) e ∙ sym (ap (λ b. cond b [] (keys_cancelled (input_of t w).keys)) e)
     by_test false e = ap (λ b. cancelled_of (cond b None (Some w)) t) e ∙ sym (ap (λ b. cond b [] (keys_cancelled (input_of t w).keys)) e)
 
--- what it is told where windows are named
+-- what it is sent if windows are reported
 keyed_named : (o : Option ℕ) (mask alive : ℕ) (t : Table)
     → Keyed o alive (λ w. if mask_has mask w then keys_cancelled (input_of t w).keys else []) (cancelled_of (if_in mask (only_live alive o)) t)
 keyed_named None mask alive t = refl
@@ -253,7 +253,7 @@ request_goes old mid place clk display lost gained channel target g lt some to i
     h
     (λ es now w queue stands. (other_steps old.displays es (kept queue old) stands).focuses now w display channel)
 
--- a request that leaves the focus tells nobody
+-- a request that leaves the focus sends nobody anything
 pub quiet_request : (f g : FocusState) (display lost gained : ℕ) (channel : Option ℕ)
     → g ≡ record { requested = slice_set f.requested display channel; last = display; focusable = f.focusable }
     → LeavesFocus display channel f

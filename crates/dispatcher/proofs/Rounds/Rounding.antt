@@ -76,7 +76,7 @@ change_at lost gained w f g p q = ap₂ (λ x y. change_sent (cond x (Some false
     by_bits false true = refl
     by_bits false false = refl
 
--- what a round tells a live window is what the step tells it
+-- what a round sends a live window is what the step sends it
 round_sent : (ds : List ℕ) (call : Call) (answer : Reply) (es : List Effect) (k : Kept) (covers : CoverTable) (later : FocusState) (r : Round) (alive w : ℕ)
     → CoversAre (step ds call answer es) covers → Lawful ds (step ds call answer es) → KeptStandsFor ds es k → FocusIs (step ds call answer es) later
     → ((c : ℕ) → mask_has alive c ≡ live (past_of (step ds call answer es)) c)

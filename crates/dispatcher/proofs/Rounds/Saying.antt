@@ -1,4 +1,4 @@
--- What a step tells a window, with its places counted from the origin of the window.
+-- What a step sends a window, with its places counted from the origin of the window.
 use Rattle.std.proofs.Common.{◌≡◌, Bool, true, false, List, [], ◌∷◌, ◌++◌, map, refl, sym, ap, ◌∙◌}
 use Rattle.input_types.specs.declared.axis.Pixel.{Pixel}
 use Rattle.input_types.specs.declared.key.KeyMsg.{KeyMsg}

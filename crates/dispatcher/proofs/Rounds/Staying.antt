@@ -1,4 +1,4 @@
--- What a round leaves of the messages that were let go.
+-- What a round leaves of the messages that were released.
 use Rattle.std.proofs.Common.{◌≡◌, ℕ, List, [], ◌∷◌, map, refl, ap, ◌∙◌, inl, inr}
 use Rattle.std.proofs.lemmas.Bool.{cases_Bool}
 use Rattle.input_types.specs.declared.message.Body.{Body}

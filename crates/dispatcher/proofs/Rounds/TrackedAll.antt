@@ -1,4 +1,4 @@
--- What a step tells a window, tracked body by body.
+-- What a step sends a window, tracked body by body.
 use Rattle.std.proofs.Common.{◌≡◌, ◌≤◌, ℕ, zero, suc, ◌==◌, Bool, true, false, cond, List, [], ◌∷◌, ◌++◌, map, flat_map, refl, sym, ap, ◌∙◌, subst, inl, inr, arith}
 use Rattle.std.specs.List.{list_any}
 use Rattle.std.proofs.lemmas.Bool.{cases_Bool, both_ways, true≢false, or_cases, or_parts, eqb-true, eq-eqb}

@@ -11,7 +11,7 @@ use Rattle.dispatcher.specs.DispatchTables.Dues.{due_in}
 pub record Table : Type 0 where
   -- the channels in the order of their opening, that with number 1 first
   pub channels : List ChannelState
-  -- of each, what its window was sent and is not told the end of
+  -- of each, the pointers and keys still down in its window's stream
   pub inputs : List Tracked
   -- the mask of those that are live
   pub live : ℕ

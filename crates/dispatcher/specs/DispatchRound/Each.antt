@@ -12,7 +12,7 @@ use Rattle.dispatcher.specs.DispatchRound.Rounds.{IsRound, AllHoldPointers, sent
 use Rattle.dispatcher.specs.DispatchRound.Outgoing.{origin_at, heard}
 use Rattle.dispatcher.specs.DispatchRound.Saying.{Spends}
 
--- The channels that pass the test are told what is said in the round, in each scene; the others are as they were, and so is all else.
+-- The channels that pass the test are sent what is said in the round, in each scene; the others are as they were, and so is all else.
 pub record HearsEach
     (covers : CoverTable) (r : Round) (ts : List Touches) (losses : Option (List ℕ)) (hear : ℕ → Bool) (origins : List Pixel) (clock : ℕ)
     (old new : Table) : Type 0 where

@@ -30,7 +30,7 @@ abbrev pub held_by : List Touches → Option Motion → ℕ → Bool
 held_by ts (Some m) w = any_at ts w m.device
 held_by ts None w = false
 
--- what a window is told of a Move with which no pointer changes hands: that the pointers move that it holds, where some are listed
+-- what a window is sent for a Move with which no pointer changes hands: that the pointers move that it holds, where some are listed
 abbrev pub moved : CoverTable → List Touches → Motion → (w : ℕ) → List Body
 moved covers ts m w = told covers w (moves m.device (listing (holds_at ts w m.device) m.pointers))
 
@@ -47,12 +47,12 @@ most_light r w = most_moves (option_copied r.motion) + length (keys_to r.target 
 abbrev pub HasLight : Round → Table → (w : ℕ) → Type 0
 HasLight r t w = (most_light r w ≤ (channel_of t w).spare) × (most_light r w ≤ (input_of t w).spare)
 
--- a window is told what the rules say of the motion, and no more messages than that
+-- a window is sent what the rules say of the motion, and no more messages than that
 pub record HearsMoves (r : Round) (ts : List Touches) (to : Listener) (old new : Table) : Type 0 where
   pub hears : HearsMotions r ts None to old new
   pub few : length hears.motions ≤ most_moves (option_copied r.motion)
 
--- what it is told of the round takes no more of its room, and of its keys it leaves what the keys of the round leave
+-- what it is sent in the round takes no more of its room, and of its keys it leaves what the keys of the round leave
 pub record SpendsLight (r : Round) (old new : Table) (w : ℕ) : Type 0 where
   pub room : (channel_of old w).spare ≤ (channel_of new w).spare + most_light r w
   pub track_room : (input_of old w).spare ≤ (input_of new w).spare + most_light r w

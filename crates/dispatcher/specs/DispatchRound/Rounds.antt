@@ -1,4 +1,4 @@
--- One step of the dispatcher, as its windows are told of it.
+-- One step of the dispatcher, as it is sent to its windows.
 use Rattle.std.specs.Prelude.{◌≡◌, ◌≤◌, ℕ, ◌+◌, max, ◌&&◌, ◌||◌, Bool, true, false, List, [], ◌∷◌, length, Option, Some, None}
 use Rattle.std.specs.List.{list_any}
 use Rattle.std.specs.Option.{option_copied}
@@ -65,7 +65,7 @@ abbrev pub may_hear : List Touches → Mark → Option Motion → (watchers : �
 may_hear ts k (Some m) watchers w = may_be_sent ts k w m.device || mask_has watchers w
 may_hear ts k None watchers w = may_take k && list_any (may_be_sent ts k w) devices
 
--- the window that is told of keys, as a mask
+-- the window that is sent keys, as a mask
 abbrev pub keyed : List KeyMsg → (target : ℕ) → ℕ
 keyed [] target = 0
 keyed (m ∷ ms) target = mask_with 0 target

@@ -51,7 +51,7 @@ motions_by Nothing d had = []
 motions_by (One m) d had = m ∷ []
 motions_by (Cancels lost) d had = pointers_cancelled d (λ i. is_in i lost) had
 
--- the cancels of the pointers of a device that it was told of, and that the tables do not say that it holds
+-- the cancels of the pointers of a device that are down in its stream, and that the tables do not say that it holds
 abbrev pub losses : List Touches → (w : ℕ) → Tracked → (d : ℕ) → List Motion
 losses ts w input d = pointers_cancelled d (λ i. not (holds_at ts w d i)) (pointers_of input d)
 

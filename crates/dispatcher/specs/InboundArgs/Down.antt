@@ -44,7 +44,7 @@ changed (Pointers ids) s = record { ids = members ids; keys = s.keys }
 changed (Key scan down) s = record { ids = s.ids; keys = with_key s.keys scan down }
 changed Nothing s = nothing_down
 
--- Args that may come are the change of what is down; of args that may not come is told what is down instead.
+-- Args that may come are the change of what is down; for args that may not come it says what is down instead.
 abbrev pub Plans : DeviceState → Args → Result Becomes Inconsistent → Type 0
 Plans s args (Ok becomes) = after_args s args ≡ Some (changed becomes s)
 Plans s args (Err e) = (after_args s args ≡ None) × (members e.pointers ≡ s.ids) × (e.key_down ≡ is_key_down s args)

@@ -1,9 +1,9 @@
--- The messages of a channel, and how many of them were let go.
+-- The messages of a channel, and how many of them were released.
 use Rattle.std.specs.Prelude.{ℕ, ◌+◌, ◌-◌, ◌^◌, ◌<◌, ◌≤◌, List, [], ◌∷◌, ◌++◌, length, drop, max}
 use Rattle.input_types.specs.declared.message.Body.{Body}
 use Rattle.input_types.specs.declared.message.Message.{Message}
 
--- how many messages were let go, those that were not, and how many more are sure to find room
+-- how many messages were released, those that were not, and how many more are sure to find room
 pub record KeptState : Type 0 where
   pub gone : ℕ
   pub messages : List Message
@@ -22,15 +22,15 @@ kept_with body moment k =
       spare = k.spare - 1;
     }
 
--- the first ones are let go
+-- the first ones are released
 abbrev pub kept_after : ℕ → KeptState → KeptState
 kept_after count k = record { gone = k.gone + count; messages = drop count k.messages; spare = k.spare }
 
--- all are let go, and the room for more stays
+-- all are released, and the room for more stays
 abbrev pub kept_empty : KeptState → KeptState
 kept_empty k = record { gone = sent_in k; messages = []; spare = k.spare }
 
--- all are let go, and the room for more too
+-- all are released, and the room for more too
 abbrev pub kept_none : KeptState → KeptState
 kept_none k = record { gone = sent_in k; messages = []; spare = 0 }
 
@@ -39,7 +39,7 @@ abbrev pub kept_with_spare : ℕ → KeptState → KeptState
 kept_with_spare n k = record { gone = k.gone; messages = k.messages; spare = max n k.spare }
 
 -- a list of this length in a block of this capacity, of which the first `dropped` places are those of messages that
--- were let go: at most half of it, so a list is never longer than twice what is kept
+-- were released: at most half of it, so a list is never longer than twice what is kept
 pub record HasRoom (len capacity dropped gone spare : ℕ) : Type 0 where
   pub half : dropped + dropped ≤ len
   pub room : len + spare ≤ capacity

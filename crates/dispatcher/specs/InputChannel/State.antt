@@ -10,7 +10,7 @@ use Rattle.dispatcher.specs.InputChannel.Order.{delivered, has_seq, without, Wit
 pub record ChannelState : Type 0 where
   -- how long its owner may leave a message unfinished
   pub limit : ℕ
-  -- how many of its messages were let go, the first ones
+  -- how many of its messages were released, the first ones
   pub gone : ℕ
   -- the others, in order
   pub messages : List Message
@@ -67,7 +67,7 @@ published_at clock s =
       unfinished = s.unfinished ++ delivered clock s.published (publishable s - s.published);
     }
 
--- there is a message for the owner: one is published and not received, and was not let go
+-- there is a message for the owner: one is published and not received, and was not released
 abbrev pub has_next : ChannelState → Bool
 has_next s = nat_le s.gone s.received && nat_lt s.received s.published
 
@@ -83,7 +83,7 @@ received_one s = record s { received = s.received + 1 }
 abbrev pub received_next : ChannelState → ChannelState
 received_next s = if has_next s then received_one s else s
 
--- the first published message that was not received is received, where there is one, whether it was let go or not
+-- the first published message that was not received is received, where there is one, whether it was released or not
 abbrev pub passed : ChannelState → ChannelState
 passed s = if nat_lt s.received s.published then received_one s else s
 
@@ -95,15 +95,15 @@ may_finish seq s = nat_le seq s.received && has_seq seq s.unfinished
 abbrev pub finished_with : ℕ → ChannelState → ChannelState
 finished_with seq s = record s { finished = s.finished + 1; unfinished = without seq s.unfinished }
 
--- the messages that were received are let go
+-- the messages that were received are released
 abbrev pub release_of : ChannelState → ChannelState
 release_of s = record s { gone = max s.gone s.received; messages = drop (s.received - s.gone) s.messages }
 
--- all messages are let go, and the room for more stays
+-- all messages are released, and the room for more stays
 abbrev pub each_released : ChannelState → ChannelState
 each_released s = record s { gone = sent s; messages = [] }
 
--- all messages are let go, and the room for more too
+-- all messages are released, and the room for more too
 abbrev pub all_released : ChannelState → ChannelState
 all_released s = record s { gone = sent s; messages = []; spare = 0 }
 

@@ -14,9 +14,9 @@ use window_snapshot::{mask_first, mask_with, mask_without};
 #[derive(Debug, Drop)]
 pub struct Tracker {
     dues: [Option<u64>; 64],
-    /// No channel is due before this moment.
+    /// No channel is due before this time.
     least: u64,
-    /// The mask of the channels that are due, in which the search for the first pair runs.
+    /// The mask of the channels that have a due time. The search for the first one runs over it.
     pending: u64,
 }
 
@@ -43,7 +43,7 @@ impl Tracker {
         }
     }
 
-    /// Sets the moment at which a channel is due.
+    /// Sets the time at which a channel is due.
     pub fn set(&mut self, channel: u32, due: u64)
         requires { (1 ≤ channel) × (channel ≤ 64) }
         ensures { self.new ≡ slice_set self.old (channel - 1) (Some due) }
@@ -53,7 +53,7 @@ impl Tracker {
         self.pending = mask_with(self.pending, channel);
     }
 
-    /// Removes a channel: it is not due.
+    /// Clears the due time of a channel.
     pub fn clear(&mut self, channel: u32)
         requires { (1 ≤ channel) × (channel ≤ 64) }
         ensures { self.new ≡ slice_set self.old (channel - 1) None }
@@ -86,7 +86,7 @@ fn none_due() -> [Option<u64>; 64]
     [None; 64]
 }
 
-/// A moment before which no channel is due, once one becomes due or changes its moment.
+/// A time before which no channel is due, after one was set.
 fn least_with(pending: u64, least: u64, due: u64) -> u64
     ensures { result ≡ least_with pending least due }
 {
@@ -97,7 +97,7 @@ fn least_with(pending: u64, least: u64, due: u64) -> u64
     }
 }
 
-/// The first of the pair that came first so far and a further one.
+/// The earlier of the first pair so far and another one.
 fn sooner(first: Option<(u64, u32)>, pair: (u64, u32)) -> (u64, u32)
     ensures { result ≡ sooner_of first pair }
 {
@@ -122,7 +122,7 @@ fn due_at(dues: &[Option<u64>; 64], channel: u32) -> Option<u64>
     dues[channel as usize - 1]
 }
 
-/// The first of the pair that came first so far and that of a further channel, if it is due.
+/// The earlier of the first pair so far and that of another channel, if that is due.
 fn further(first: Option<(u64, u32)>, due: Option<u64>, channel: u32) -> Option<(u64, u32)>
     ensures { result ≡ further first due channel }
 {
@@ -132,7 +132,7 @@ fn further(first: Option<(u64, u32)>, due: Option<u64>, channel: u32) -> Option<
     }
 }
 
-/// Whether a channel with this due is due at the moment.
+/// Whether a channel with this due time is due at a time.
 fn is_at(due: Option<u64>, moment: u64) -> bool
     ensures { result ≡ is_at due moment }
 {
@@ -142,10 +142,10 @@ fn is_at(due: Option<u64>, moment: u64) -> bool
     }
 }
 
-/// Searches for the first pair in a mask outside of which no channel is due.
+/// Searches for the first pair in a mask that has all channels with a due time.
 ///
-/// No channel is due before the moment `least`, so that the first one that is due at it ends the search: channels that
-/// were sent at one step are mostly due at one moment.
+/// No channel is due before the time `least`, so the first channel that is due then ends the search. Channels that were
+/// sent something by one step are usually due at one time.
 fn first_of(dues: &[Option<u64>; 64], pending: u64, least: u64) -> Option<(u64, u32)>
     requires out { (c : ℕ) → mask_has pending c ≡ false → due_of dues.now c ≡ None }
     requires least { NoneBelow (due_of dues.now) least }

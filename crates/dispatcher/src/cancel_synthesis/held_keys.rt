@@ -8,7 +8,7 @@ ghost use Rattle.dispatcher.specs.CancelSynthesis.Ends.{key_cancelled, keys_canc
 use input_types::{Body, DeviceId, FLAG_CANCELED, KeyArgs, KeyMsg};
 use std::alloc::AllocError;
 
-/// Whether two keys are one: the same scan code of the same device.
+/// Whether two keys are the same: the same scan code of the same device.
 fn same_key(a: &KeyArgs, b: &KeyArgs) -> bool
     ensures { result ≡ same_key a.now b.now }
 {
@@ -102,7 +102,7 @@ pub(crate) fn cancel_keys_into(out: &mut Vec<KeyMsg>, keys: &[KeyMsg]) -> Result
     Ok(())
 }
 
-/// Fills a list with the cancelled ups of those of these keys that are of a device.
+/// Fills a list with the cancelled ups of those of these keys that belong to a device.
 pub(crate) fn cancel_device_keys_into(
     out: &mut Vec<KeyMsg>,
     keys: &[KeyMsg],

@@ -31,19 +31,19 @@ use std::alloc::{AllocError, Global};
 use std::marker::Model;
 use window_snapshot::{mask_has, mask_with};
 
-/// The most channels that are opened, removed ones counted.
+/// The most channels that can be opened, including removed ones.
 const MOST: usize = 64;
 
-/// All channels that were opened, removed ones too. They have the numbers 1, 2, 3 in the order of their opening, at
-/// most 64, and a mask is a set of them: bit `id - 1` stands for the channel `id`.
+/// All channels that were opened, including removed ones. They have the numbers 1, 2, 3 in the order of their opening,
+/// at most 64. A mask is a set of them: bit `id - 1` stands for the channel `id`.
 #[derive(Drop)]
 pub struct Channels {
     channels: Vec<Channel>,
-    /// Of each channel, what its window was sent and is not told the end of.
+    /// For each channel, the pointers and keys still down in its window's stream.
     inputs: Vec<InputState>,
     live: u64,
     able: u64,
-    /// When those that are able are due to be named.
+    /// When the able channels are due to be reported.
     tracker: Tracker,
     anrs: Anrs,
 }
@@ -106,8 +106,8 @@ impl Channels {
         self.able
     }
 
-    /// Opens a channel, which is live and able and has room for one message, and answers its number; None exactly where
-    /// 64 were opened. Without memory nothing changes.
+    /// Opens a channel, which is live and able and has room for one message. Returns its number; None exactly if 64
+    /// were opened. If memory runs out, nothing changes.
     pub fn open(&mut self, limit: Limit) -> Result<Option<u32>, AllocError>
         ensures ok { IfOk result (λ number. OpensOrNot limit number self.old self.new) }
         ensures err { OnErr result (self.new ≡ self.old) }
@@ -131,8 +131,8 @@ impl Channels {
         Ok(Some(number))
     }
 
-    /// Makes room, so that the channel can be sent the next `n` bodies. Without memory nothing changes but the room
-    /// that it has.
+    /// Makes room, so that the channel can be sent the next `n` bodies. If memory runs out, nothing changes but the
+    /// room of the channel.
     pub fn reserve(&mut self, channel: u32, n: u32) -> Result<(), AllocError>
         requires { IsOpened self.old channel }
         ensures ok { OnOk result (self.new ≡ with_room channel n self.old) }
@@ -146,8 +146,8 @@ impl Channels {
         self.inputs[place].reserve(n)
     }
 
-    /// A live channel is sent a body, which is given in display pixels. The owner reads its places from the origin of
-    /// the window, kept at the ends of their type. Takes no memory.
+    /// Sends a live channel a body, which is given in display pixels. Its owner reads positions that count from the
+    /// window's origin and saturate at the ends of their type. Takes no memory.
     pub fn send(&mut self, channel: u32, body: &Body, origin: Pixel, clock: Moment)
         requires live { mask_has self.old.live channel ≡ true }
         requires room { 1 ≤ (channel_of self.old channel).spare }
@@ -159,8 +159,8 @@ impl Channels {
         track(&mut self.inputs[place], body);
     }
 
-    /// A live channel is sent a motion with these flags in place of its own, as `send` would tell it, without a body in
-    /// display pixels. Takes no memory.
+    /// Sends a live channel a motion with these flags in place of its own, as `send` would, without building its body
+    /// in display pixels. Takes no memory.
     pub fn send_motion(
         &mut self,
         channel: u32,
@@ -181,7 +181,7 @@ impl Channels {
 
     /// Publishes the live channels of a mask at a clock. Takes no memory.
     ///
-    /// The clock may not be below that at which an unfinished message of them was delivered.
+    /// No unfinished message of them may have been delivered after the clock.
     pub fn publish(&mut self, mask: u64, clock: Moment)
         requires { MayPublish mask clock self.old }
         ensures { Publishes mask clock self.old self.new }
@@ -196,8 +196,8 @@ impl Channels {
         );
     }
 
-    /// The next message for the owner of a channel, which stays the next one; None exactly where all published ones
-    /// are received.
+    /// The next message for the owner of a channel, which stays the next one; None exactly if all published ones are
+    /// received.
     pub fn next(&self, channel: u32) -> Option<&Message>
         requires { IsOpened self.now channel }
         ensures { option_copied result ≡ next_of (channel_of self.now channel) }
@@ -205,7 +205,7 @@ impl Channels {
         self.channels[channel as usize - 1].next()
     }
 
-    /// The owner of a channel has the message that `next` lends.
+    /// The owner of a channel receives the message that `next` lends.
     pub fn mark_received(&mut self, channel: u32)
         requires opened { IsOpened self.old channel }
         requires published { (channel_of self.old channel).received < (channel_of self.old channel).published }
@@ -214,8 +214,8 @@ impl Channels {
         self.channels[channel as usize - 1].mark_received();
     }
 
-    /// The owner of a channel has its next message, where one is published that it did not receive. It may be one that
-    /// was let go.
+    /// The owner of a channel receives its next message, if one is published that it did not receive. The message may
+    /// have been released.
     pub fn pass(&mut self, channel: u32)
         requires { IsOpened self.old channel }
         ensures { self.new ≡ with_channel channel (passed (channel_of self.old channel)) self.old }
@@ -223,7 +223,7 @@ impl Channels {
         self.channels[channel as usize - 1].pass();
     }
 
-    /// Hands the next message of a channel to its owner; None exactly where all published ones are received. Takes no
+    /// Hands the next message of a channel to its owner; None exactly if all published ones are received. Takes no
     /// memory.
     pub fn receive(&mut self, channel: u32) -> Option<Message>
         requires { IsOpened self.old channel }
@@ -233,11 +233,11 @@ impl Channels {
         self.channels[channel as usize - 1].receive()
     }
 
-    /// The owner of a channel is done with a message. What may be published then is, at the clock; and a live channel
-    /// is able, where no message of it is late. `UnknownSeq` comes exactly where the message is not received, or is
+    /// The owner of a channel finishes a message. What may be published then is published at the clock, and a live
+    /// channel is able if none of its messages is late. `UnknownSeq` comes exactly if the message is not received or is
     /// finished, and then nothing changes. Takes no memory.
     ///
-    /// The clock may not be below that at which an unfinished message of the channel was delivered.
+    /// No unfinished message of the channel may have been delivered after the clock.
     pub fn finish(&mut self, channel: u32, seq: u64, clock: Moment) -> Result<(), UnknownSeq>
         requires opened { IsOpened self.old channel }
         requires may { NoneAfter clock (channel_of self.old channel).unfinished }
@@ -254,8 +254,8 @@ impl Channels {
         Ok(())
     }
 
-    /// The mask of the able channels whose oldest message, of those that are published and not finished, is late at a
-    /// moment. It looks at no message, and where nobody is due at no channel.
+    /// The mask of the able channels whose oldest published and unfinished message is late at a time. It looks at no
+    /// message, and if no channel is due, at no channel.
     pub fn late(&self, now: Moment) -> u64
         ensures { (c : ℕ) → mask_has result c ≡ is_due (due_moment self.now c) now }
     {
@@ -268,8 +268,8 @@ impl Channels {
         due_channels(&self.tracker, self.opened(), now)
     }
 
-    /// Names the channels of a mask unresponsive: notes the oldest message of each, of those that are published and
-    /// not finished, and none of them is able. Without memory nothing changes.
+    /// Reports the channels of a mask as unresponsive: records the oldest published and unfinished message of each, and
+    /// makes none of them able. If memory runs out, nothing changes.
     pub fn name(&mut self, mask: u64, clock: Moment) -> Result<(), AllocError>
         ensures ok { OnOk result (self.new ≡ named_in mask clock self.old) }
         ensures err { OnErr result (self.new ≡ self.old) }
@@ -280,7 +280,7 @@ impl Channels {
         Ok(())
     }
 
-    /// Removes a channel: it is not live any more, nor able. Its messages stay.
+    /// Removes a channel: it is no longer live or able. Its messages stay.
     pub fn remove(&mut self, channel: u32)
         requires { IsOpened self.old channel }
         ensures { self.new ≡ removed_in channel self.old }

@@ -11,7 +11,7 @@ use crate::input_channel::Channel;
 use input_types::Moment;
 use window_snapshot::mask_with;
 
-/// When a channel is due that is able: its limit after the delivery of its oldest unfinished message.
+/// When an able channel is due: its limit after the delivery of its oldest unfinished message.
 fn due_of_oldest(channel: &Channel) -> Option<u64>
     ensures { result ≡ due_in true channel.now }
 {
@@ -30,7 +30,7 @@ pub(crate) fn due_in(is_able: bool, channel: &Channel) -> Option<u64>
     }
 }
 
-/// A channel is due at a moment, or is not due.
+/// Sets or clears the time at which a channel is due.
 pub(crate) fn set_due(tracker: &mut Tracker, channel: u32, due: Option<u64>)
     requires { (1 ≤ channel) × (channel ≤ 64) }
     ensures { tracker.new ≡ slice_set tracker.old (channel - 1) due }
@@ -41,7 +41,7 @@ pub(crate) fn set_due(tracker: &mut Tracker, channel: u32, due: Option<u64>)
     }
 }
 
-/// The channels of a mask are not due.
+/// Clears the due times of the channels of a mask.
 pub(crate) fn clear_all(tracker: &mut Tracker, mask: u64)
     requires { length tracker.old ≡ 64 }
     ensures places { length tracker.new ≡ 64 }
@@ -55,7 +55,7 @@ pub(crate) fn clear_all(tracker: &mut Tracker, mask: u64)
     }
 }
 
-/// Whether a channel is due at a moment or before it.
+/// Whether a channel is due at or before a time.
 fn is_due(due: Option<u64>, now: Moment) -> bool
     ensures { result ≡ is_due due now }
 {
@@ -65,7 +65,7 @@ fn is_due(due: Option<u64>, now: Moment) -> bool
     }
 }
 
-/// The mask, and a channel too where it is to be in it.
+/// The mask, with a channel added if the flag says so.
 fn with_if(mask: u64, channel: u32, is_in: bool) -> u64
     ensures { result ≡ (if is_in then mask_with mask channel else mask) }
 {
@@ -76,7 +76,7 @@ fn with_if(mask: u64, channel: u32, is_in: bool) -> u64
     }
 }
 
-/// The mask of the channels 1 to `count` that are due at a moment or before it.
+/// The mask of the channels 1 to `count` that are due at or before a time.
 pub(crate) fn due_channels(tracker: &Tracker, count: u32, now: Moment) -> u64
     requires { count ≤ 64 }
     ensures { (c : ℕ) → mask_has result c ≡ (nat_le c count && is_due (due_of tracker.now c) now) }

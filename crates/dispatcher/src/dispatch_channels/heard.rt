@@ -8,7 +8,7 @@ ghost use Rattle.dispatcher.specs.DispatchChannels.Heard.{body_from};
 use crate::input_channel::list_from;
 use input_types::{Body, Motion, Pixel, Pointers};
 
-/// A body in display pixels, with the places of a motion counted from an origin.
+/// A body in display pixels, with the positions of a motion counted from an origin.
 pub(crate) fn body_from(origin: Pixel, body: &Body) -> Body
     ensures { result ≡ body_from origin body.now }
 {
@@ -19,7 +19,7 @@ pub(crate) fn body_from(origin: Pixel, body: &Body) -> Body
     }
 }
 
-/// A motion with these flags, whose places are counted from an origin. It is inlined, so that its list is not copied on
+/// A motion with these flags, whose positions count from an origin. It is inlined, so that its list is not copied on
 /// the way out.
 #[inline(always)]
 pub(crate) fn motion_from(origin: Pixel, flags: u32, motion: &Motion) -> Motion
@@ -34,7 +34,7 @@ pub(crate) fn motion_from(origin: Pixel, flags: u32, motion: &Motion) -> Motion
     }
 }
 
-/// Pointers whose places are counted from an origin.
+/// Pointers whose positions count from an origin.
 #[inline(always)]
 fn pointers_from(origin: Pixel, pointers: &Pointers) -> Pointers
     ensures { result ≡ counted_from origin pointers.now }

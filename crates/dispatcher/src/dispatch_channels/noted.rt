@@ -1,4 +1,4 @@
-//! What is noted of the channels that are named.
+//! The ANRs: what is recorded of reported channels.
 ghost use Rattle.std.specs.Prelude.{◌≡◌, ◌+◌, ◌≤◌, ◌<◌, ◌++◌, length, vec_len, vec_capacity, option_to_list, if◌then◌else◌};
 ghost use Rattle.std.specs.Prelude.{OnOk, OnErr};
 ghost use Rattle.dispatcher.specs.DispatchTables.Delivery.{none_noted, noted_with, noted_gone};
@@ -12,11 +12,11 @@ use std::alloc::{AllocError, Global};
 use std::marker::Model;
 use window_snapshot::mask_has;
 
-/// The namings so far, but for the first ones, which were let go.
+/// The ANRs so far, except the released ones, which were the first.
 #[derive(Drop)]
 pub(crate) struct Anrs {
     list: Vec<Anr>,
-    // How many were let go.
+    // How many were released.
     gone: u64,
 }
 
@@ -32,7 +32,7 @@ impl Model for Anrs {
 }
 
 impl Anrs {
-    /// No namings.
+    /// No ANRs.
     pub(crate) fn new(alloc: Global) -> Anrs
         ensures { result ≡ none_noted }
     {
@@ -42,14 +42,14 @@ impl Anrs {
         }
     }
 
-    /// Those that were not let go, the first one first.
+    /// The ANRs that were not released, oldest first.
     pub(crate) fn left(&self) -> &[Anr]
         ensures { result.now ≡ self.now.left }
     {
         &self.list
     }
 
-    /// Notes the channels of a mask that are named at a clock. Without memory nothing changes.
+    /// Records an ANR for each channel of a mask, at a clock. If memory runs out, nothing changes.
     pub(crate) fn note(
         &mut self,
         channels: &[Channel],
@@ -61,7 +61,7 @@ impl Anrs {
             ≡ noted_with (anrs_in clock mask (channel_in channels.now) (length channels.now)) self.old) }
         ensures err { OnErr result (self.new ≡ self.old) }
     {
-        // Their count must not end before the room for them does.
+        // The count of ANRs must not end before the room for them does.
         let noted = self.gone + self.list.len() as u64;
         if u64::MAX - noted < channels.len() as u64 {
             return Err(AllocError);
@@ -71,7 +71,7 @@ impl Anrs {
         Ok(())
     }
 
-    /// Drops all of them, and gives back their memory.
+    /// Releases all ANRs, and gives back their memory.
     pub(crate) fn release(&mut self)
         ensures { self.new ≡ noted_gone self.old }
     {
@@ -80,7 +80,7 @@ impl Anrs {
     }
 }
 
-/// What is noted of a channel that is named at a clock: its oldest message that is published and not finished.
+/// The ANR of a channel that is reported at a clock: its oldest published and unfinished message.
 fn anr_in(clock: Moment, number: u32, channel: &Channel) -> Option<Anr>
     ensures { result ≡ anr_in clock number channel.now }
 {
@@ -92,7 +92,7 @@ fn anr_in(clock: Moment, number: u32, channel: &Channel) -> Option<Anr>
     })
 }
 
-/// The same of a channel that may be named.
+/// The ANR of a channel that may be reported, if it is in the mask.
 fn anr_if(is_named: bool, clock: Moment, number: u32, channel: &Channel) -> Option<Anr>
     ensures { result ≡ (if is_named then anr_in clock number channel.now else None) }
 {
@@ -103,7 +103,7 @@ fn anr_if(is_named: bool, clock: Moment, number: u32, channel: &Channel) -> Opti
     }
 }
 
-/// Notes a naming, where there is one.
+/// Records an ANR, if there is one.
 fn note(anrs: &mut Vec<Anr>, anr: Option<Anr>)
     requires { vec_len anrs.old < vec_capacity anrs.old }
     ensures items { anrs.new.items ≡ anrs.old.items ++ option_to_list anr }
@@ -115,7 +115,7 @@ fn note(anrs: &mut Vec<Anr>, anr: Option<Anr>)
     }
 }
 
-/// Notes the channels of a mask.
+/// Records an ANR for each channel of a mask.
 fn note_all(anrs: &mut Vec<Anr>, channels: &[Channel], mask: u64, clock: Moment)
     requires room { vec_len anrs.old + length channels.now ≤ vec_capacity anrs.old }
     requires few { length channels.now ≤ 64 }

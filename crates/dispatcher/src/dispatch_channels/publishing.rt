@@ -1,4 +1,4 @@
-//! Channels are published.
+//! Publishes channels.
 ghost use Rattle.std.specs.Prelude.{◌≡◌, ℕ, true, ◌-◌, ◌≤◌, ◌&&◌, not, length, slice_set, is_ok, OnOk, OnErr, if◌then◌else◌};
 ghost use Rattle.window_snapshot.specs.Mask.{mask_has, mask_with};
 ghost use Rattle.dispatcher.specs.InputChannel.Order.{NoneAfter};
@@ -15,7 +15,7 @@ use crate::input_channel::{Channel, UnknownSeq};
 use input_types::Moment;
 use window_snapshot::{mask_has, mask_with};
 
-/// Publishes a channel at a clock, and sets its due.
+/// Publishes a channel at a clock, and sets its due time.
 pub(crate) fn publish_one(
     channels: &mut [Channel],
     tracker: &mut Tracker,
@@ -39,7 +39,7 @@ pub(crate) fn publish_one(
     set_due(tracker, channel, due);
 }
 
-/// A message of a channel is finished, and what may be published then is.
+/// Finishes a message of a channel, and publishes what may be published then.
 pub(crate) fn finish_one(channel: &mut Channel, seq: u64, clock: Moment) -> Result<(), UnknownSeq>
     requires { NoneAfter clock channel.old.unfinished }
     ensures variant { is_ok result ≡ may_finish seq channel.old }
@@ -51,7 +51,7 @@ pub(crate) fn finish_one(channel: &mut Channel, seq: u64, clock: Moment) -> Resu
     Ok(())
 }
 
-/// The mask of those that are able, with a channel where it is live and no message of it is late.
+/// The mask of the able channels, with a channel added if it is live and none of its messages is late.
 pub(crate) fn able_after(able: u64, live: u64, channel: u32, is_late: bool) -> u64
     ensures { result ≡ (if mask_has live channel && not is_late then mask_with able channel else able) }
 {
@@ -62,7 +62,7 @@ pub(crate) fn able_after(able: u64, live: u64, channel: u32, is_late: bool) -> u
     }
 }
 
-/// Publishes the channels of a mask at a clock, and sets their dues.
+/// Publishes the channels of a mask at a clock, and sets their due times.
 pub(crate) fn publish_all(
     channels: &mut [Channel],
     tracker: &mut Tracker,

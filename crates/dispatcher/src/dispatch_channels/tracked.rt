@@ -1,4 +1,4 @@
-//! What a window is sent is tracked.
+//! Tracks what a window is sent.
 ghost use Rattle.std.specs.Prelude.{◌≤◌};
 ghost use Rattle.dispatcher.specs.CancelSynthesis.Tracked.{Tracks};
 
@@ -6,7 +6,7 @@ use crate::cancel_synthesis::InputState;
 use input_types::Body;
 use std::alloc::AllocError;
 
-/// What a window is sent is tracked, where there is room for it.
+/// Tracks what a window is sent, for which there is room.
 pub(crate) fn track(input: &mut InputState, body: &Body)
     requires { 1 ≤ input.old.spare }
     ensures { Tracks input.old input.new body.now }

@@ -1,4 +1,4 @@
-//! Which windows a step may tell something.
+//! Which windows a step may send something.
 ghost use Rattle.std.specs.Prelude.{◌≡◌, ℕ};
 ghost use Rattle.std.specs.List.{list_any};
 ghost use Rattle.std.specs.Option.{option_copied};
@@ -43,7 +43,7 @@ fn may_hear(round: &Round, touches: &Touches) -> u64
     }
 }
 
-/// The mask of the window that is sent keys, where there are some.
+/// The mask of the window that is sent keys, if there are any.
 pub(crate) fn keyed(keys: &[KeyMsg], target: u32) -> u64
     ensures { result ≡ keyed keys.now target }
 {
@@ -54,14 +54,14 @@ pub(crate) fn keyed(keys: &[KeyMsg], target: u32) -> u64
     }
 }
 
-/// The mask of the live windows that may be sent something in a round, before the tables of touches have changed by it.
+/// The mask of the live windows that a round may send something, before the tables of touches change by it.
 pub fn listeners(round: &Round, touches: &Touches, channels: &Channels) -> u64
     ensures { AreListeners result touches.now round.now channels.now }
 {
     concerned(round, touches) & channels.live()
 }
 
-/// The mask of the windows that may be sent something, live or not.
+/// The mask of the windows that a round may send something, live or not.
 fn concerned(round: &Round, touches: &Touches) -> u64
     ensures { (w : ℕ) → mask_has result w ≡ is_concerned touches.now round.now w }
 {

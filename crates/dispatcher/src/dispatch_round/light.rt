@@ -1,5 +1,5 @@
-//! Light rounds: they give no window a pointer and take none from a window, and leave the focus. So a window is sent
-//! a Move that some of its pointers move, and of keys.
+//! Light rounds: they give no window a pointer, take none from a window, and leave the focus. So they send a window
+//! only a Move of its pointers, and keys.
 ghost use Rattle.std.specs.Prelude.{◌≡◌, ◌≤◌, ◌<◌, ◌^◌, ℕ, true, false, None, length, OnOk, IfOk, IsOk};
 ghost use Rattle.std.specs.Option.{option_copied};
 ghost use Rattle.window_snapshot.specs.Mask.{mask_has};
@@ -59,7 +59,7 @@ fn most_moves(motion: Option<&Motion>) -> usize
     }
 }
 
-/// The most messages that a window is sent; without memory for so many, none.
+/// The most messages that a window is sent. If there is no memory for so many, none.
 #[inline(always)]
 fn most_light(round: &Round, window: u32) -> Result<u32, AllocError>
     ensures value { IfOk result (λ n. n ≡ most_light round.now window) }
@@ -87,9 +87,9 @@ fn make_room_in(round: &Round, channels: &mut Channels, window: u32) -> Result<(
     channels.make_ready(window, count)
 }
 
-/// Makes room for all that a light round sends the windows that are live, so that [`send_light`] takes no memory, and
-/// answers their mask. With and without memory nothing changes but the room that channels have. Where they have enough
-/// already, no memory is taken.
+/// Makes room for everything that a light round sends the live windows, so that [`send_light`] takes no memory, and
+/// returns their mask. Nothing changes but the room of channels, with or without memory. If they have enough already,
+/// no memory is taken.
 #[inline(always)]
 pub fn make_light_room(
     round: &Round,
@@ -105,7 +105,7 @@ pub fn make_light_room(
     ensures roomy { length round.now.keys.now < 2 ^ 31
         → ((w : ℕ) → mask_has channels.old.live w ≡ true → HasLight round.now channels.old w) → IsOk result }
 {
-    // Its clauses say that what each window was sent is kept.
+    // Its clauses say that what each window was sent stays as it was.
     let _opened = channels.opened();
     let outgoing = hearers(round, touches, channels);
     let mut rest = outgoing;
@@ -135,7 +135,7 @@ impl<'a> Model for MotionById<'a> {
     ghost invariant = { λ m. m.pointers ≡ m.motion.now.pointers };
 }
 
-/// The motion of a round so, where it has one.
+/// The motion of a round with its pointers by id, if the round has a motion.
 #[inline(always)]
 fn by_id<'a>(motion: Option<&'a Motion>) -> Option<MotionById<'a>>
     ensures { result ≡ option_copied motion.entry }
@@ -149,7 +149,7 @@ fn by_id<'a>(motion: Option<&'a Motion>) -> Option<MotionById<'a>>
     }
 }
 
-/// Sends one window a Move of the pointers that it holds, where the motion lists some of them.
+/// Sends one window a Move of the pointers that it holds, if the motion lists some of them.
 #[inline(always)]
 fn move_held(
     to: &Listener,
@@ -176,7 +176,7 @@ fn move_held(
     }
 }
 
-/// Sends one window the motion of a light round, where it has one.
+/// Sends one window the motion of a light round, if the round has one.
 #[inline(always)]
 fn say_light(
     to: &Listener,
@@ -192,7 +192,7 @@ fn say_light(
 {
     match motion {
         Some(found) => {
-            // Read for its clause alone: devices have the numbers 1 to 8, which contracts do not see of the type.
+            // Read only for its clause: devices have the numbers 1 to 8, which contracts cannot see from the type.
             let _number = found.motion.device.get();
             move_held(to, found.motion, &found.pointers, touches, channels);
         }
@@ -200,7 +200,7 @@ fn say_light(
     }
 }
 
-/// One window is sent all of a light round: of its motion, and then of keys.
+/// Sends one window everything of a light round: its motion, and then its keys.
 #[inline(always)]
 fn send_one(
     to: &Listener,
@@ -219,7 +219,7 @@ fn send_one(
     say_keys(to, keys_to(round.keys, round.target, to.window), channels);
 }
 
-/// The windows of a mask are sent so, the first one first.
+/// Sends the windows of a mask a light round, the first one first.
 #[inline(always)]
 fn send_each(
     outgoing: u64,
@@ -254,10 +254,9 @@ fn send_each(
 }
 
 /// Sends the windows of the mask `outgoing` what the rules of the step of a light round say, and publishes it at the
-/// clock.
-/// It is what [`send_all`](crate::dispatch_round::tell_all) makes of the round, found with less work. Takes no memory.
+/// clock. The result is that of [`send_all`](crate::dispatch_round::send_all), with less work. Takes no memory.
 ///
-/// The mask is that which [`make_light_room`] answers.
+/// The mask is the one that [`make_light_room`] returned.
 #[inline(always)]
 pub fn send_light(
     outgoing: u64,

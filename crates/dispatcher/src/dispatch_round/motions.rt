@@ -1,4 +1,4 @@
-//! One window is sent the motions of a step.
+//! Sends one window the motions of a step.
 ghost use Rattle.std.specs.Prelude.{◌≡◌, ℕ, true, ◌==◌, List, Option, Some, length, flat_map};
 ghost use Rattle.std.specs.List.{list_any};
 ghost use Rattle.std.specs.Option.{option_copied};
@@ -32,7 +32,7 @@ pub(crate) fn may_take(mark: &Mark) -> bool
     }
 }
 
-/// Cancels what the window was told that it holds of a device, and holds no more.
+/// Cancels the pointers of a device that are down in the window's stream and that it no longer holds.
 fn say_loss(to: &Listener, device: DeviceId, touches: &Touches, channels: &mut Channels)
     requires { let had = pointers_of (input_of channels.old to.now.window) device in
         CanHear to.now.window (length had) channels.old }
@@ -45,7 +45,7 @@ fn say_loss(to: &Listener, device: DeviceId, touches: &Touches, channels: &mut C
     say_cancels(to, cancels, channels);
 }
 
-/// The same of all devices, one after the other.
+/// Does the same for all devices, one after another.
 fn say_losses(to: &Listener, touches: &Touches, channels: &mut Channels)
     requires { CanHear to.now.window (count_of (input_of channels.old to.now.window) devices) channels.old }
     ensures { let input = input_of channels.old to.now.window in
@@ -74,7 +74,7 @@ fn say_pilfered(to: &Listener, mark: &Mark, losses: &Losses, channels: &mut Chan
     }
 }
 
-/// Tells what the rules say of the motion of a step, where the window held these ids before. It is not inlined: most
+/// Sends what the rules say of the motion of a step, if the window held these ids before. It is not inlined, since most
 /// motions only move.
 #[inline(never)]
 fn say_sent(
@@ -92,14 +92,14 @@ fn say_sent(
         CanHear to.now.window (most_motions (option_copied round.now.motion) input) channels.old }
     ensures { (lost : Option (List ℕ)) → HearsMotions round.now touches.now lost to.now channels.old channels.new }
 {
-    // Read for its clause alone: devices have the numbers 1 to 8, which contracts do not see of the type.
+    // Read only for its clause: devices have the numbers 1 to 8, which contracts cannot see from the type.
     let _number = motion.device.get();
     let watches = mask_has(round.watchers, to.window);
     let sends = touches.sends(motion, to.window, before, watches);
     say_found(to, motion.device, &sends, channels);
 }
 
-/// Tells the motions of a step, by which the tables of touches have changed.
+/// Sends the motions of a step, by which the tables of touches have changed.
 pub(crate) fn say_motions(
     to: &Listener,
     round: &Round,
@@ -113,7 +113,7 @@ pub(crate) fn say_motions(
 {
     match round.motion {
         Some(motion) => {
-            // Read for its clause alone: devices have the numbers 1 to 8, which contracts do not see of the type.
+            // Read only for its clause: devices have the numbers 1 to 8, which contracts cannot see from the type.
             let _number = motion.device.get();
             let before = ids_of(channels.input(to.window).pointers(motion.device));
             match touches.moving(motion, to.window, before) {

@@ -49,14 +49,14 @@ fn most_motions(round: &Round, input: &InputState) -> usize
     }
 }
 
-/// The key messages that a window is sent, where the target is sent these.
+/// The key messages that a window is sent, if the target is sent these.
 pub(crate) fn keys_to(keys: &[KeyMsg], target: u32, window: u32) -> &[KeyMsg]
     ensures { result.now ≡ keys_to target keys.now window }
 {
     if window == target { keys } else { &[] }
 }
 
-/// How many bodies tell of a change.
+/// How many bodies a change of the focus sends.
 fn count_of(change: Option<bool>) -> usize
     ensures value { result ≡ length (change_sent change) }
     ensures few { result ≤ 1 }
@@ -67,7 +67,7 @@ fn count_of(change: Option<bool>) -> usize
     }
 }
 
-/// The most bodies that it is sent; without memory for so many messages, none.
+/// The most bodies that a window is sent. If there is no memory for so many messages, none.
 fn most_bodies(round: &Round, channels: &Channels, window: u32) -> Result<u32, AllocError>
     requires { IsOpened channels.now window }
     ensures value { IfOk result (λ n. n ≡ most_bodies round.now window (input_of channels.now window)) }
@@ -98,10 +98,9 @@ fn make_room_in(round: &Round, channels: &mut Channels, window: u32) -> Result<(
     channels.reserve(window, count)
 }
 
-/// Makes room for all that a step sends the windows that are live, so that
-/// [`send_all`](crate::dispatch_round::tell_all) takes no memory, and answers their mask: no other is sent anything.
-/// With and without memory nothing changes but the room that channels have. Where they have enough already, no memory
-/// is taken.
+/// Makes room for everything that a step sends the live windows, so that [`send_all`](crate::dispatch_round::send_all)
+/// takes no memory, and returns their mask: no other window is sent anything. Nothing changes but the room of channels,
+/// with or without memory. If they have enough already, no memory is taken.
 pub fn make_room(
     round: &Round,
     touches: &Touches,
@@ -119,7 +118,7 @@ pub fn make_room(
         IsReady touches.now round.now channels.old → IsOk result }
     ensures calm { ((w : ℕ) → is_concerned touches.now round.now w ≡ false) → IsOk result }
 {
-    // Its clauses say that what each window was sent is kept.
+    // Its clauses say that what each window was sent stays as it was.
     let _opened = channels.opened();
     let outgoing = listeners(round, touches, channels);
     let mut rest = outgoing;

@@ -1,4 +1,4 @@
-//! One window is sent motions of a device, keys, or a change of its focus. None of this takes memory.
+//! Sends one window motions of a device, keys, or a change of its focus. None of this takes memory.
 ghost use Rattle.std.specs.Prelude.{◌≡◌, max, [], ◌∷◌, map, length};
 ghost use Rattle.input_types.specs.declared.message.Body.TheVariants.{Key as KeyBody, Focus as FocusBody};
 ghost use Rattle.input_types.specs.declared.motion.MotionAction.TheVariants.{Move};
@@ -21,7 +21,7 @@ use bits32::Bits32;
 use input_types::{Body, DeviceId, KeyMsg, Motion, MotionAction};
 use route_split::Sends;
 
-/// Tells one body.
+/// Sends one body.
 fn say(to: &Listener, body: &Body, channels: &mut Channels)
     requires { CanHear to.now.window 1 channels.old }
     ensures { SendsOne to.now (body.now ∷ []) channels.old channels.new }
@@ -29,7 +29,7 @@ fn say(to: &Listener, body: &Body, channels: &mut Channels)
     channels.send(to.window, body, to.origin, to.clock);
 }
 
-/// The flags of a motion with those of a cover; a touch outside has none of these.
+/// The flags of a motion with those of a cover; a touch outside gets none of these.
 fn flags_under(action: MotionAction, flags: u32, cover: u32) -> u32
     ensures { (c : Cover) → cover ≡ flags_of c → result ≡ flags_under action c flags }
 {
@@ -39,7 +39,7 @@ fn flags_under(action: MotionAction, flags: u32, cover: u32) -> u32
     }
 }
 
-/// Tells one motion, with the flags of what lies over the window.
+/// Sends one motion, with the flags of what lies over the window.
 fn say_motion(to: &Listener, motion: &Motion, channels: &mut Channels)
     requires { CanHear to.now.window 1 channels.old }
     ensures { SendsOne to.now (told to.now.covers.now to.now.window (motion.now ∷ [])) channels.old channels.new }
@@ -49,7 +49,7 @@ fn say_motion(to: &Listener, motion: &Motion, channels: &mut Channels)
     channels.send_motion(to.window, motion, flags, to.origin, to.clock);
 }
 
-/// Tells that the pointers of a motion with these ids move.
+/// Sends a Move of the pointers of a motion with these ids.
 pub(crate) fn say_moves(to: &Listener, motion: &Motion, ids: Bits32, channels: &mut Channels)
     requires { CanHear to.now.window 1 channels.old }
     ensures { SendsOne to.now (told to.now.covers.now to.now.window
@@ -68,7 +68,7 @@ pub(crate) fn say_moves(to: &Listener, motion: &Motion, ids: Bits32, channels: &
     );
 }
 
-/// Tells the cancels of pointers that are taken from the window, one after the other.
+/// Sends the cancels of pointers that are taken from the window, one after another.
 pub(crate) fn say_cancels(to: &Listener, cancels: Cancels, channels: &mut Channels)
     requires { CanHear to.now.window (length (still_sent cancels)) channels.old }
     ensures { SendsOne to.now (told to.now.covers.now to.now.window (still_sent cancels)) channels.old channels.new }
@@ -79,7 +79,7 @@ pub(crate) fn say_cancels(to: &Listener, cancels: Cancels, channels: &mut Channe
     }
 }
 
-/// Tells what the rules found for a device.
+/// Sends what the rules found for a device.
 pub(crate) fn say_found(to: &Listener, device: DeviceId, sends: &Sends, channels: &mut Channels)
     requires { let had = pointers_of (input_of channels.old to.now.window) device in
         CanHear to.now.window (max 1 (length had)) channels.old }
@@ -94,7 +94,7 @@ pub(crate) fn say_found(to: &Listener, device: DeviceId, sends: &Sends, channels
     }
 }
 
-/// Tells the cancels of pointers of a device that the window lost. It is not inlined: cancels are large, and seldom.
+/// Sends the cancels of pointers of a device that the window lost. It is not inlined, since cancels are large and rare.
 #[inline(never)]
 fn say_lost(to: &Listener, device: DeviceId, lost: Bits32, channels: &mut Channels)
     requires { let had = pointers_of (input_of channels.old to.now.window) device in
@@ -108,7 +108,7 @@ fn say_lost(to: &Listener, device: DeviceId, lost: Bits32, channels: &mut Channe
     say_cancels(to, cancels, channels);
 }
 
-/// Tells key messages, in order.
+/// Sends key messages, in order.
 pub(crate) fn say_keys(to: &Listener, keys: &[KeyMsg], channels: &mut Channels)
     requires { CanHear to.now.window (length keys.now) channels.old }
     ensures { SendsOne to.now (map KeyBody keys.now) channels.old channels.new }
@@ -118,7 +118,7 @@ pub(crate) fn say_keys(to: &Listener, keys: &[KeyMsg], channels: &mut Channels)
     }
 }
 
-/// Tells one key message.
+/// Sends one key message.
 fn say_key(to: &Listener, message: &KeyMsg, channels: &mut Channels)
     requires { CanHear to.now.window 1 channels.old }
     ensures { SendsOne to.now (KeyBody message.now ∷ []) channels.old channels.new }
@@ -126,7 +126,7 @@ fn say_key(to: &Listener, message: &KeyMsg, channels: &mut Channels)
     channels.send_key(to.window, message, to.clock);
 }
 
-/// Tells whether the window has the focus now, where that changed.
+/// Sends whether the window has the focus now, if that changed.
 pub(crate) fn say_change(to: &Listener, change: Option<bool>, channels: &mut Channels)
     requires { CanHear to.now.window (length (change_sent change)) channels.old }
     ensures { SendsOne to.now (change_sent change) channels.old channels.new }
@@ -137,8 +137,8 @@ pub(crate) fn say_change(to: &Listener, change: Option<bool>, channels: &mut Cha
     }
 }
 
-/// Tells that the window has the focus now, or lost it. It is not inlined, so that a round without one makes no room
-/// for its body.
+/// Sends that the window has the focus now, or lost it. It is not inlined, so that a round without a change makes no
+/// room for its body.
 #[inline(never)]
 fn say_focus(to: &Listener, has_focus: bool, channels: &mut Channels)
     requires { CanHear to.now.window 1 channels.old }

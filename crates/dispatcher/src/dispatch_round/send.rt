@@ -1,4 +1,4 @@
-//! The windows of a step are sent.
+//! Sends the windows of a step their messages.
 ghost use Rattle.std.specs.Prelude.{◌≡◌, ◌≤◌, ℕ, true, false};
 ghost use Rattle.std.specs.Option.{option_copied};
 ghost use Rattle.window_snapshot.specs.Mask.{mask_has};
@@ -25,7 +25,7 @@ use input_types::{Moment, Pixel};
 use pilfer_monitor::Losses;
 use route_split::{Mark, Touches};
 
-/// One window is sent all of a step: motions, then keys, then a change of its focus.
+/// Sends one window everything of a step: motions, then keys, then a change of its focus.
 fn send_one(
     to: &Listener,
     round: &Round,
@@ -43,7 +43,7 @@ fn send_one(
     say_change(to, focus_change(round.lost, round.gained, window), channels);
 }
 
-/// The windows of a mask are sent, the first one first.
+/// Sends the windows of a mask their messages, the first one first.
 fn send_each(
     outgoing: u64,
     clock: Moment,
@@ -109,8 +109,8 @@ fn change_and_send(
     }
 }
 
-/// The same of a mark with which a window may pilfer. It is not inlined: the list of what each window lost is large,
-/// and seldom made.
+/// Does the same for a mark with which a window may pilfer. It is not inlined, since the list of what each window lost
+/// is large and seldom made.
 #[inline(never)]
 fn pilfer_and_send(
     outgoing: u64,
@@ -149,9 +149,9 @@ fn pilfer_and_send(
 /// the rules of the step say, and publishes it at the clock. Takes no memory.
 ///
 /// The mask is that of the [`listeners`](crate::dispatch_round::listeners), for which
-/// [`make_room`](crate::dispatch_round::make_room) has made the room. The covers are those after the step. The places
-/// of motions are counted from the origins, of which that of window 1 is the first one. The clock may not be below that
-/// at which an unfinished message was delivered.
+/// [`make_room`](crate::dispatch_round::make_room) has made the room. The covers are those after the step. The
+/// positions of motions count from the origins, which begin with that of window 1. No unfinished message may have been
+/// delivered after the clock.
 pub fn send_all(
     outgoing: u64,
     round: &Round,

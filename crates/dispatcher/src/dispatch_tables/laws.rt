@@ -2,15 +2,14 @@
 ghost use Rattle.dispatcher.specs.DispatchTables.Laws.{LawfulEffects, LawfulStep, LawfulLast, KeptStep, KeptReady, KeptUnopened, KeptQuiet, NotLiveLaw, KeptLess, KeptFacts, NumberedLaw, ReceiveLaw, FinishLaw, OldestLaw, LateLaw, CountsLaw, OpenedFew, AbleLaw, LiveMaskLaw, AbleMaskLaw, DueLaw, QuietDueLaw, NotLiveDueLaw, DuesLaw, FirstDueLaw, NamedLaw, AnrsLaw, AnrsKeptLaw, AnrsGoLaw, SilentCalls, DeliveryStart, DeliveryLaw, DeliveryDue, DeliveryNoOp};
 ghost use Rattle.dispatcher.specs.DispatchTables.Holding.{HeldLess, MayGoLaw, PassLaw};
 
-/// Effects of legal histories: a step with the required reply keeps them so, and each step has it.
+/// The effects of legal histories. A step with the required reply keeps them legal, and each of their steps has it.
 pub fn lawful()
     ensures effects { LawfulEffects }
     ensures step { LawfulStep }
     ensures last { LawfulLast }
 {}
 
-/// What is kept of a channel, and how a step changes it. It is published at the clock after the step, which it may be
-/// then.
+/// What is kept of a channel, and how a step changes it. After the step it may be published at the clock.
 pub fn channels()
     ensures facts { KeptFacts }
     ensures numbers { NumberedLaw }
@@ -30,7 +29,7 @@ pub fn quiet_channels()
     ensures silent { SilentCalls }
 {}
 
-/// What owners are answered, and what can be read of a channel, by what is kept of it.
+/// What owners are answered, and what can be read of a channel, from what is kept of it.
 pub fn answers()
     ensures receive { ReceiveLaw }
     ensures pass { PassLaw }
@@ -48,7 +47,7 @@ pub fn responding()
     ensures able_mask { AbleMaskLaw }
 {}
 
-/// When channels are due, by what is kept of them, and which one is first.
+/// When channels are due, from what is kept of them, and which one is first.
 pub fn dues()
     ensures kept { DueLaw }
     ensures quiet { QuietDueLaw }
@@ -65,7 +64,7 @@ pub fn anrs()
     ensures gone { AnrsGoLaw }
 {}
 
-/// What is kept of all channels stands for the empty history at first, and after each step for one more step.
+/// What is kept of all channels stands for the empty history at first, and after each step for one step more.
 pub fn delivery()
     ensures start { DeliveryStart }
     ensures step { DeliveryLaw }

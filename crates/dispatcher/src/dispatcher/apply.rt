@@ -1,4 +1,4 @@
-//! Any call, told from the others by what it is.
+//! Any call, matched by its kind.
 ghost use Rattle.std.specs.Prelude.{◌≡◌, ◌≤◌, ◌+◌, true, IfOk, OnErr};
 ghost use Rattle.dispatch_calls.specs.declared.call.Call.TheVariants.{Receive};
 ghost use Rattle.dispatcher.specs.Answered.{Answers, AnswersCalm, AnswersPumped, AnswersReserved};
@@ -11,7 +11,7 @@ use dispatch_calls::{Call, Reply};
 use std::alloc::AllocError;
 
 impl Dispatcher {
-    /// Answers a call, and makes what it says. Out of memory changes nothing, and the call is as if it had not come.
+    /// Makes a call and answers it. If memory runs out, nothing changes, as if the call had not come.
     ///
     /// Some calls need no memory: owners that receive or finish, a removal, a request that changes no focus, a tick
     /// that reports no ANR and a pump that is idle.
@@ -45,7 +45,7 @@ impl Dispatcher {
         }
     }
 
-    /// The owner of a channel takes its next message, which is copied.
+    /// The owner of a channel receives its next message, as a copy.
     fn hand_out(&mut self, channel: u32) -> Result<Reply, AllocError>
         ensures ok { IfOk result (λ answer. Answers (Receive channel) answer self.old self.new) }
         ensures err { OnErr result (self.new ≡ self.old) }

@@ -1,5 +1,5 @@
-//! What is asked of what decides where input goes: the args that wait, the windows, the channels that can have input,
-//! the focus, and the key that is to be repeated.
+//! What can be asked about where input goes: the args that wait, the windows, the channels that can have input, the
+//! focus, and the key to repeat.
 ghost use Rattle.std.specs.Prelude.{◌≡◌, ℕ, List, option_map, slice_get};
 ghost use Rattle.std.specs.Option.{option_copied};
 ghost use Rattle.window_snapshot.specs.Mask.{mask_has};
@@ -18,7 +18,7 @@ use input_types::{Args, DeviceId, DisplayId, Displays, KeyMsg, Moment};
 use window_snapshot::Snapshot;
 
 impl Dispatcher {
-    /// The args that are dispatched next; None exactly where none wait.
+    /// The args that are dispatched next; None exactly if none wait.
     pub fn first(&self) -> Option<&Args>
         ensures { (es : List Effect) → IsAfter es self.now
             → option_copied result ≡ slice_get (inbound (past_of es)) 0 }
@@ -33,7 +33,7 @@ impl Dispatcher {
         self.tables.routing.shown.windows()
     }
 
-    /// The mask of the channels that a motion of a device can reach: those that are live, and have a window on its
+    /// The mask of the channels that a motion of a device can reach: those that are live and have a window on its
     /// display.
     pub fn reach(&self, device: DeviceId) -> u64
         ensures { (es : List Effect) → IsAfter es self.now → (c : ℕ)
@@ -51,24 +51,24 @@ impl Dispatcher {
         self.tables.routing.channels.able()
     }
 
-    /// The channel whose window has the focus of a display, where there is one.
+    /// The channel whose window has the focus of a display, if there is one.
     pub fn focused(&self, display: DisplayId) -> Option<u32>
         ensures { (es : List Effect) → IsAfter es self.now → result ≡ focus (past_of es) display }
     {
-        // Read for its clause alone: a display has one of the numbers 0 to 3.
+        // Read only for its clause: a display has one of the numbers 0 to 3.
         let _number = display.get();
         self.tables.routing.focus.current(display)
     }
 
-    /// The channel whose window keys go to, where there is one.
+    /// The channel whose window keys go to, if there is one.
     pub fn target(&self) -> Option<u32>
         ensures { (es : List Effect) → IsAfter es self.now → result ≡ key_target (past_of es) }
     {
         self.tables.routing.focus.target()
     }
 
-    /// The channel that the key message that was sent last is repeated for, and the repeat; None exactly where its
-    /// window does not hold the key any more, or it is not repeated.
+    /// The channel of the next repeat, and the repeat of its last key message. None exactly if its window no longer
+    /// holds the key, or the message is not repeated.
     pub fn repeat(&self) -> Option<(u32, KeyMsg)>
         ensures { (es : List Effect) → IsAfter es self.now
             → option_map (λ n. (n.0, n.1)) result ≡ next_of (while_held es (last_key es)) }
@@ -76,7 +76,7 @@ impl Dispatcher {
         self.tables.routing.repeat.next()
     }
 
-    /// The greatest moment that was handed in.
+    /// The latest time that was handed in.
     pub fn clock(&self) -> Moment
         ensures { (es : List Effect) → IsAfter es self.now → result ≡ clock (past_of es) }
     {

@@ -15,7 +15,7 @@ use input_types::{Args, Moment};
 use std::alloc::AllocError;
 
 impl Dispatcher {
-    /// Puts args of a device behind those that wait, where they may follow what is down on it. Out of memory changes
+    /// Queues args of a device behind those that wait, if they may follow what is down on it. Out of memory changes
     /// nothing.
     pub fn notify(&mut self, now: Moment, args: &Args) -> Result<Outcome, AllocError>
         ensures ok { IfOk result (λ outcome. Answers (Notify now args.now) (reply_of outcome) self.old self.new) }
@@ -38,7 +38,7 @@ impl Dispatcher {
         }
     }
 
-    /// Dispatches the first args that wait; where none wait, repeats a key that is held. Out of memory changes nothing.
+    /// Dispatches the first args that wait; if none wait, repeats a held key. Out of memory changes nothing.
     pub fn pump(&mut self, now: Moment) -> Result<Outcome, AllocError>
         ensures ok { IfOk result (λ outcome. Answers (Pump now) (reply_of outcome) self.old self.new) }
         ensures err { OnErr result (self.new ≡ self.old) }
@@ -54,9 +54,9 @@ impl Dispatcher {
         Ok(Outcome::Dispatched)
     }
 
-    /// Takes args and dispatches them, as `notify` and then `pump` do, where they need not wait: no args wait, and
-    /// these may follow what is down on their device. They are not copied. If it returns `false`, nothing changed. Out
-    /// of memory changes nothing.
+    /// Accepts args and dispatches them, as `notify` and then `pump` do, if they need not wait: no args wait, and these
+    /// may follow what is down on their device. They are not copied. If it returns `false`, nothing changed. Out of
+    /// memory changes nothing.
     pub fn dispatch(&mut self, now: Moment, args: &Args) -> Result<bool, AllocError>
         ensures done { IfOk result (λ done. done ≡ true
             → StepsTwice (Notify now args.now) (Pump now) self.old self.new) }
@@ -88,8 +88,8 @@ fn refusal(pointers: u32, key_down: bool) -> Outcome
     Outcome::Inconsistent { pointers, key_down }
 }
 
-/// The pointers of args have rising ids, as those of every motion. It does nothing: of the list alone contracts do not
-/// see that, and the clause of a call on it says so.
+/// The pointers of args have rising ids, as those of every motion. It does nothing; a call of it brings this fact,
+/// which contracts cannot see from the list alone.
 fn rises(now: Moment, args: &Args)
     ensures { RisesIn (Notify now args.now) }
 {

@@ -13,7 +13,7 @@ use input_types::{Limit, Moment};
 use std::alloc::AllocError;
 
 impl Dispatcher {
-    /// Opens a channel, whose messages are to be finished within the limit. Out of memory changes nothing.
+    /// Opens a channel, whose messages must be finished within the limit. Out of memory changes nothing.
     pub fn open(&mut self, limit: Limit) -> Result<Reply, AllocError>
         ensures ok { IfOk result (λ answer. Answers (Open limit) answer self.old self.new) }
         ensures err { OnErr result (self.new ≡ self.old) }
@@ -27,7 +27,7 @@ impl Dispatcher {
         Ok(reply)
     }
 
-    /// The owner of a channel has the message that [`next`](Dispatcher::next) lends, or would lend had it not been
+    /// The owner of a channel receives the message that [`next`](Dispatcher::next) lends, or would lend had it not been
     /// released. It is not copied.
     pub fn receive(&mut self, channel: u32) -> Result<(), AllocError>
         ensures ok { OnOk result (StepsOn (Receive channel) self.old self.new) }
@@ -40,7 +40,7 @@ impl Dispatcher {
         Ok(())
     }
 
-    /// The owner of a channel is done with a message.
+    /// The owner of a channel finishes a message.
     pub fn finish(&mut self, now: Moment, channel: u32, seq: u64) -> Result<Outcome, AllocError>
         ensures ok { IfOk result
             (λ outcome. Answers (Finish now channel seq) (reply_of outcome) self.old self.new) }

@@ -20,7 +20,7 @@ impl Dispatcher {
         self.tables.routing.channels.unfinished()
     }
 
-    /// A moment before which no channel is due to be named. Nothing is looked for.
+    /// A time before which no channel is due to be reported. It does not search.
     pub fn due_from(&self) -> u64
         ensures { (es : List Effect) → IsAfter es self.now
             → (due : Due) → first_due es ≡ Some due → result ≤ due.moment }

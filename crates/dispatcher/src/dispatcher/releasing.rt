@@ -1,4 +1,4 @@
-//! What is kept of a history no longer.
+//! Releases messages and ANRs.
 ghost use Rattle.std.specs.Prelude.{◌≡◌, ◌≤◌, ◌==◌, ℕ, true, false, List, length, max};
 ghost use Rattle.dispatch_history.specs.Due.{anrs};
 ghost use Rattle.dispatch_history.specs.Effect.{Effect, past_of, stream};
@@ -10,7 +10,7 @@ use super::Dispatcher;
 use window_snapshot::mask_has;
 
 impl Dispatcher {
-    /// Drops the messages of a channel that its owner received. They are not needed any more. Their numbers stay in
+    /// Releases the messages of a channel that its owner received. They are no longer needed. Their numbers stay in
     /// use.
     pub fn release(&mut self, channel: u32)
         ensures stays { (es : List Effect) → StandsFor es self.old → StandsFor es self.new }
@@ -29,9 +29,10 @@ impl Dispatcher {
         }
     }
 
-    /// Drops all messages of a channel, those too that its owner did not receive, as one does who has read them by
-    /// [`messages`](Dispatcher::messages). Their numbers stay in use. The owner is handed none of them any more, so
-    /// what is kept stands for its history no longer; but it is as after it, and goes on so.
+    /// Releases all messages of a channel, received or not. A reader ahead of the owners calls it once it has read them
+    /// by [`messages`](Dispatcher::messages). Their numbers stay in use. The owner is handed none of them, so what is
+    /// kept no longer stands for its history, but it matches the history except for released messages, and all calls
+    /// preserve that.
     pub fn let_each_go(&mut self, channel: u32)
         ensures known { (es : List Effect) → IsAfter es self.old → IsAfter es self.new }
         ensures displays { self.new.displays ≡ self.old.displays }
@@ -46,9 +47,8 @@ impl Dispatcher {
         }
     }
 
-    /// Drops all messages of a channel that was removed, and gives back their memory: nothing of it is kept any more
-    /// but its counts. Of a live channel nothing is dropped. What its owner did not receive is read by
-    /// [`messages`](Dispatcher::messages) before.
+    /// Releases all messages of a removed channel, and gives back their memory: only its counts are kept. A live
+    /// channel stays as it is. Read what the owner did not receive by [`messages`](Dispatcher::messages) before.
     pub fn let_all_go(&mut self, channel: u32)
         ensures stays { (es : List Effect) → StandsFor es self.old → StandsFor es self.new }
         ensures known { (es : List Effect) → IsAfter es self.old → IsAfter es self.new }
@@ -69,7 +69,7 @@ impl Dispatcher {
         }
     }
 
-    /// Drops the namings so far, and gives back their memory.
+    /// Releases the ANRs so far, and gives back their memory.
     pub fn release_anrs(&mut self)
         ensures stays { (es : List Effect) → StandsFor es self.old → StandsFor es self.new }
         ensures known { (es : List Effect) → IsAfter es self.old → IsAfter es self.new }

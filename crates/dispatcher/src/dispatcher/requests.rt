@@ -13,7 +13,7 @@ use std::alloc::AllocError;
 use window_snapshot::Snapshot;
 
 impl Dispatcher {
-    /// Shows these windows from now on. Out of memory changes nothing.
+    /// Replaces the windows. Out of memory changes nothing.
     pub fn show(&mut self, now: Moment, snapshot: &Snapshot) -> Result<Reply, AllocError>
         ensures ok { IfOk result (λ answer. Answers (Windows now snapshot.now) answer self.old self.new) }
         ensures err { OnErr result (self.new ≡ self.old) }

@@ -1,4 +1,4 @@
-//! Room for args.
+//! Room for args and pumps.
 ghost use Rattle.std.specs.Prelude.{◌≡◌, ◌≤◌, List, OnErr, OnOk, IsOk};
 ghost use Rattle.dispatch_history.specs.Effect.{Effect};
 ghost use Rattle.dispatcher.specs.Dispatching.{IsAfter, StandsFor, with_room, with_args_room};
@@ -8,12 +8,12 @@ use crate::reserving::reserve;
 use std::alloc::AllocError;
 
 impl Dispatcher {
-    /// Makes room for the next `n` calls of `Notify`, and for the next `n` of `Pump`, so that they cannot answer want
-    /// of memory. Only a Notify takes of the room for args, that of one at most. A Notify leaves the room for pumps,
-    /// and a Pump takes that of one. Any other call that is answered takes all room for pumps away.
+    /// Makes room for the next `n` calls of `Notify` and for the next `n` of `Pump`, so that they cannot run out of
+    /// memory. Only a Notify takes from the room for args, at most that of one. A Notify leaves the room for pumps, and
+    /// a Pump takes that of one. Any other answered call takes all room for pumps.
     ///
-    /// For each pump 131 messages are made room for in each live channel: 128 may be cancels. Without memory nothing
-    /// changes.
+    /// For each pump there is room for 131 messages in each live channel: 128 may be cancels. If memory runs out,
+    /// nothing changes.
     pub fn reserve(&mut self, n: u32) -> Result<(), AllocError>
         ensures ok { OnOk result (self.new ≡ with_room n self.old) }
         ensures err { OnErr result (self.new ≡ self.old) }
@@ -24,7 +24,7 @@ impl Dispatcher {
         reserve(&mut self.tables, n)
     }
 
-    /// Makes room for the next `n` args alone. Without memory nothing changes.
+    /// Makes room for the next `n` args alone. If memory runs out, nothing changes.
     pub fn reserve_args(&mut self, n: u32) -> Result<(), AllocError>
         ensures ok { OnOk result (self.new ≡ with_args_room n self.old) }
         ensures err { OnErr result (self.new ≡ self.old) }

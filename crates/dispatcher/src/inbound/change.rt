@@ -17,7 +17,8 @@ pub enum Becomes {
     Nothing,
 }
 
-/// Args that may not come: the ids that are down on their device, as bits, and whether they are of a key that is down.
+/// Args that may not come: the ids that are down on their device, as bits, and whether they are about a key that is
+/// down.
 #[derive(Clone, Copy, Debug, PartialEq, Eq)]
 pub struct Inconsistent {
     pub pointers: u32,

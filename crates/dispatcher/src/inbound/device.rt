@@ -40,7 +40,7 @@ impl DeviceDown {
         })
     }
 
-    /// What args of the device change, or what is down where they may not come.
+    /// What args of the device change, or what is down if they may not come.
     pub(crate) fn plan(&self, args: &Args) -> Result<Becomes, Inconsistent>
         ensures { Plans (state_of self.now) args.now result }
     {
@@ -73,7 +73,7 @@ impl DeviceDown {
         })
     }
 
-    /// What args that may not come are answered.
+    /// The answer to args that may not come.
     fn refused(&self, key_down: bool) -> Inconsistent
         ensures pointers { members result.pointers ≡ (state_of self.now).ids }
         ensures key { result.key_down ≡ key_down }
@@ -99,7 +99,7 @@ impl DeviceDown {
     }
 }
 
-/// The ids that are down after a motion of the device itself; None where it may not come.
+/// The ids that are down after a motion of the device itself; None if the motion may not come.
 fn next_own(held: Bits32, motion: &Motion) -> Option<Bits32>
     ensures { option_map members result ≡ own_after (members held) motion.now }
 {

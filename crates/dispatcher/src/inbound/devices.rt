@@ -12,7 +12,7 @@ use std::marker::Model;
 /// The pointers and the keys that are down on each of the devices 1 to 8.
 #[derive(Drop)]
 pub struct DevicesDown {
-    /// That of device 1 first.
+    /// From device 1 on.
     devices: Vec<DeviceDown>,
 }
 
@@ -36,7 +36,7 @@ impl DevicesDown {
         Ok(DevicesDown { devices })
     }
 
-    /// What args change, or what is down on their device where they may not come.
+    /// What args change, or what is down on their device if they may not come.
     pub fn plan(&self, args: &Args) -> Result<Change, Inconsistent>
         ensures plan { PlansAt self.now args.now result }
         ensures device { (1 ≤ device_of args.now) × (device_of args.now ≤ 8) }
@@ -69,7 +69,7 @@ fn untouched(alloc: Global) -> Result<Vec<DeviceDown>, AllocError>
     Ok(devices)
 }
 
-/// The device that some args are of.
+/// The device of some args.
 pub fn device_of(args: &Args) -> DeviceId
     ensures { result ≡ device_of args.now }
 {
@@ -80,7 +80,7 @@ pub fn device_of(args: &Args) -> DeviceId
     }
 }
 
-/// The place of a device in a table that begins with device 1.
+/// The index of a device in a table that begins with device 1.
 fn row(device: DeviceId) -> usize
     ensures place { result ≡ device - 1 }
     ensures device { (1 ≤ device) × (device ≤ 8) }

@@ -40,7 +40,7 @@ impl KeysDown {
         self.sets[usize::from(scan / 32)].has((scan % 32) as u8)
     }
 
-    /// The key with a scan code is down from now on, or is up.
+    /// Marks the key with a scan code as down or as up.
     pub(crate) fn set(&mut self, scan: u16, down: bool)
         ensures { (s : ℕ) → has_key self.new s ≡ with_key (has_key self.old) scan down s }
     {
@@ -53,7 +53,7 @@ impl KeysDown {
         }
     }
 
-    /// No key is down from now on.
+    /// Marks all keys as up.
     pub(crate) fn clear(&mut self)
         ensures { (scan : ℕ) → has_key self.new scan ≡ false }
     {
@@ -61,7 +61,7 @@ impl KeysDown {
     }
 }
 
-/// So many empty sets.
+/// This many empty sets.
 fn empty_sets(alloc: Global, count: usize) -> Result<Vec<Bits32>, AllocError>
     ensures { IfOk result (λ v. v.items ≡ replicate count 0) }
 {

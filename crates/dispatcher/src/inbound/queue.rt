@@ -8,8 +8,7 @@ use std::alloc::{AllocError, Global};
 use std::collections::VecDeque;
 use std::marker::Model;
 
-/// Args that wait, the next one first, and room for some more. Contracts see the list, and how many more there is room
-/// for.
+/// Args that wait, the next ones first, and room for more. Contracts see the list, and how many more it has room for.
 #[derive(Drop)]
 pub struct Inbound {
     waiting: VecDeque<Args>,
@@ -39,7 +38,7 @@ impl Inbound {
         }
     }
 
-    /// Makes room for the next `n` args. Without memory nothing changes.
+    /// Makes room for the next `n` args. If memory runs out, nothing changes.
     pub fn reserve(&mut self, n: usize) -> Result<(), AllocError>
         ensures ok { OnOk result (self.new ≡ with_spare n self.old) }
         ensures err { OnErr result (self.new ≡ self.old) }
@@ -52,7 +51,7 @@ impl Inbound {
         Ok(())
     }
 
-    /// Puts args behind those that wait, where room was reserved for them. Takes no memory.
+    /// Appends args, for which room was reserved. Takes no memory.
     pub fn put(&mut self, args: Args)
         requires { 1 ≤ self.old.spare }
         ensures { self.new ≡ put_behind args self.old }
@@ -61,14 +60,14 @@ impl Inbound {
         self.spare -= 1;
     }
 
-    /// The args that are next, which stay; None exactly where nothing waits.
+    /// The next args, which stay; None exactly if none wait.
     pub fn first(&self) -> Option<&Args>
         ensures { option_copied result ≡ slice_get self.now.args 0 }
     {
         self.waiting.front()
     }
 
-    /// Takes the args that are next; None exactly where nothing waits. Takes no memory.
+    /// Removes the next args; None exactly if none wait. Takes no memory.
     pub fn pop(&mut self) -> Option<Args>
         ensures value { result ≡ slice_get self.old.args 0 }
         ensures rest { self.new ≡ without_first self.old }

@@ -15,7 +15,7 @@ use input_types::{Body, DeviceId, KeyMsg, Limit, Message, Moment, Pixel, Pointer
 use std::alloc::{AllocError, Global};
 use std::marker::Model;
 
-/// The message is not one that its owner received and did not finish.
+/// The owner did not receive this message, or finished it already.
 #[derive(Clone, Copy, Debug, PartialEq, Eq)]
 pub struct UnknownSeq;
 
@@ -43,7 +43,7 @@ impl Model for Channel {
 }
 
 impl Channel {
-    /// A channel without messages, whose owner may leave a message unfinished for so long.
+    /// A channel without messages, whose owner may leave a message unfinished for this long.
     pub fn new(alloc: Global, limit: Limit) -> Channel
         ensures { result ≡ opened_with limit }
     {
@@ -64,7 +64,7 @@ impl Channel {
         self.limit
     }
 
-    /// The messages, but for those that were let go.
+    /// The messages that were not released.
     pub fn messages(&self) -> &[Message]
         ensures { result.now ≡ self.now.messages }
     {
@@ -100,7 +100,7 @@ impl Channel {
         self.finished
     }
 
-    /// Makes room, so that the next `n` calls of `enqueue` cannot run out of memory. Without memory nothing
+    /// Makes room, so that the next `n` calls of `enqueue` cannot run out of memory. If memory runs out, nothing
     /// changes.
     pub fn reserve(&mut self, n: u32) -> Result<(), AllocError>
         ensures ok { OnOk result (self.new ≡ with_spare n self.old) }
@@ -110,15 +110,15 @@ impl Channel {
         self.kept.reserve(n)
     }
 
-    /// For how many messages more there is room.
+    /// How many more messages there is room for.
     pub fn spare(&self) -> u32
         ensures { result ≡ self.now.spare }
     {
         self.kept.spare()
     }
 
-    /// Makes room like `reserve`, where more room is counted too where there is some. Without memory nothing changes
-    /// but that room.
+    /// Makes room like `reserve`, and also counts any room beyond that. If memory runs out, nothing changes but that
+    /// room.
     #[inline(always)]
     pub fn make_ready(&mut self, n: u32) -> Result<(), AllocError>
         ensures ok { OnOk result (n ≤ self.new.spare) }
@@ -129,8 +129,8 @@ impl Channel {
         self.kept.make_ready(n)
     }
 
-    /// Puts a message behind the others, and answers its number. Without memory nothing changes; a channel whose
-    /// numbers stand at the end of their type answers this too.
+    /// Appends a message, and returns its number. If memory runs out, nothing changes; a channel whose numbers are at
+    /// the end of their type reports this too.
     pub fn enqueue(&mut self, body: Body, moment: Moment) -> Result<u64, AllocError>
         ensures ok { IfOk result (λ n. (n ≡ sent self.old + 1) × (self.new ≡ enqueued body moment self.old)) }
         ensures err { OnErr result (self.new ≡ self.old) }
@@ -140,7 +140,7 @@ impl Channel {
         Ok(self.enqueue_reserved(body, moment))
     }
 
-    /// `enqueue` where room was reserved for it. Takes no memory.
+    /// Does what `enqueue` does, for a message for which room was reserved. Takes no memory.
     pub fn enqueue_reserved(&mut self, body: Body, moment: Moment) -> u64
         requires { 1 ≤ self.old.spare }
         ensures number { result ≡ sent self.old + 1 }
@@ -149,8 +149,8 @@ impl Channel {
         self.kept.push(body, moment)
     }
 
-    /// The same of the Move of these pointers of a device, with these flags, and with their places counted from an
-    /// origin. They go straight into the list of the messages.
+    /// Does the same for the Move of these pointers of a device, with these flags and with positions that count from an
+    /// origin. The pointers go straight into the list of messages.
     pub fn enqueue_moves(
         &mut self,
         device: DeviceId,
@@ -166,7 +166,7 @@ impl Channel {
             .push_moves(device, flags, pointers, origin, moment);
     }
 
-    /// The same of a key message.
+    /// Does the same for a key message.
     pub fn enqueue_key(&mut self, message: &KeyMsg, moment: Moment)
         requires { 1 ≤ self.old.spare }
         ensures { self.new ≡ enqueued (KeyBody message.now) moment self.old }
@@ -174,9 +174,9 @@ impl Channel {
         self.kept.push_key(message, moment);
     }
 
-    /// Publishes all messages, but so that at most 64 are published and not finished. Takes no memory.
+    /// Publishes all messages, as long as at most 64 are published and not finished. Takes no memory.
     ///
-    /// The clock may not be below one of an earlier call at which a message was delivered that is not finished.
+    /// No unfinished message may have been delivered after the clock.
     pub fn publish(&mut self, clock: Moment)
         requires { NoneAfter clock self.old.unfinished }
         ensures { self.new ≡ published_at clock self.old }
@@ -187,8 +187,8 @@ impl Channel {
         self.published += count;
     }
 
-    /// The next message for the owner, which stays the next one; None exactly where all published messages are
-    /// received, and where one that was not received was let go.
+    /// The next message for the owner, which stays the next one; None exactly if all published messages are received,
+    /// or if one that was not received was released.
     pub fn next(&self) -> Option<&Message>
         ensures value { option_copied result ≡ next_of self.now }
         ensures none { self.now.gone ≤ self.now.received
@@ -204,7 +204,7 @@ impl Channel {
         }
     }
 
-    /// The owner has the message that `next` lends.
+    /// The owner receives the message that `next` lends.
     pub fn mark_received(&mut self)
         requires { self.old.received < self.old.published }
         ensures { self.new ≡ received_one self.old }
@@ -212,7 +212,8 @@ impl Channel {
         self.received += 1;
     }
 
-    /// The owner has the next message, where one is published that it did not receive. It may be one that was let go.
+    /// The owner receives the next message, if one is published that it did not receive. The message may have been
+    /// released.
     pub fn pass(&mut self)
         ensures { self.new ≡ passed self.old }
     {
@@ -221,8 +222,8 @@ impl Channel {
         }
     }
 
-    /// Hands the next message to the owner; None exactly where all published messages are received, and where one that
-    /// was not received was let go. Takes no memory.
+    /// Hands the next message to the owner; None exactly if all published messages are received, or if one that was not
+    /// received was released. Takes no memory.
     pub fn receive(&mut self) -> Option<Message>
         ensures value { result ≡ next_of self.old }
         ensures none { self.old.gone ≤ self.old.received
@@ -234,8 +235,8 @@ impl Channel {
         Some(message)
     }
 
-    /// The owner is done with a message. `UnknownSeq` comes exactly where the message is not received, or is finished,
-    /// and then nothing changes. Takes no memory.
+    /// The owner finishes a message. `UnknownSeq` comes exactly if the message is not received or is finished, and then
+    /// nothing changes. Takes no memory.
     pub fn finish(&mut self, seq: u64) -> Result<(), UnknownSeq>
         ensures variant { is_ok result ≡ may_finish seq self.old }
         ensures ok { OnOk result (self.new ≡ finished_with seq self.old) }
@@ -252,8 +253,8 @@ impl Channel {
         Ok(())
     }
 
-    /// The number and the delivery of the oldest message that is published and not finished, which is the one with the
-    /// least delivery; None exactly where every published message is finished.
+    /// The number and the delivery of the oldest published and unfinished message, which has the earliest delivery;
+    /// None exactly if every published message is finished.
     pub fn oldest_unfinished(&self) -> Option<(u64, Moment)>
         ensures value { result ≡ oldest_of self.now }
         ensures order { IsChannel self.now }
@@ -262,8 +263,7 @@ impl Channel {
         Some((oldest.seq, oldest.delivery))
     }
 
-    /// Whether at this clock a message that is published and not finished has waited as long as the owner may leave it
-    /// unfinished.
+    /// Whether at this clock a published and unfinished message is late.
     pub fn has_late(&self, clock: Moment) -> bool
         ensures { result ≡ has_late clock self.now }
     {
@@ -273,7 +273,7 @@ impl Channel {
         }
     }
 
-    /// Drops the messages that were received. Their numbers stay in use.
+    /// Releases the messages that were received. Their numbers stay in use.
     pub fn release(&mut self)
         ensures { self.new ≡ release_of self.old }
     {
@@ -281,16 +281,17 @@ impl Channel {
         self.kept.release(count as usize);
     }
 
-    /// Drops all messages, those too that were not received, as one does who has read them. Their numbers stay in use,
-    /// and the room for more stays. Their owner is handed none of them any more, but `pass` goes on.
+    /// Releases all messages, received or not. A reader ahead of the owner calls it once it has read them. Their
+    /// numbers stay in use, and the room for more stays. The owner is handed none of them any more, but `pass` goes on
+    /// counting.
     pub fn let_each_go(&mut self)
         ensures { self.new ≡ each_released self.old }
     {
         self.kept.let_each_go();
     }
 
-    /// Drops all messages, those too that were not received, and gives back their memory. Their numbers stay in use,
-    /// and the owner is handed none of them any more.
+    /// Releases all messages, received or not, and gives back their memory. Their numbers stay in use, and the owner is
+    /// handed none of them any more.
     pub fn let_all_go(&mut self)
         ensures { self.new ≡ all_released self.old }
     {

@@ -1,4 +1,4 @@
-//! The messages of a channel that were not let go.
+//! The messages of a channel that were not released.
 ghost use Rattle.std.specs.Prelude.{◌≡◌, ◌+◌, ◌≤◌, ◌<◌, ◌^◌, ℕ, [], IsOk, OnErr, OnOk, drop, length, vec_len, vec_capacity};
 ghost use Rattle.input_types.specs.declared.message.Body.TheVariants.{Key as KeyBody};
 ghost use Rattle.dispatcher.specs.InputChannel.Kept.{sent_in, kept_with, kept_after, kept_empty, kept_none, kept_with_spare};
@@ -9,16 +9,16 @@ use input_types::{Body, DeviceId, KeyArgs, KeyMsg, Message, Moment, Pixel, Point
 use std::alloc::{AllocError, Global};
 use std::marker::Model;
 
-/// The messages, in a list whose first ones may be let go already. These go from the list once they are at least half
-/// of it, so each message is moved at most once for one that is let go.
+/// The messages, in a list whose front may be released already. The front is dropped once it is at least half of the
+/// list, so a release moves at most one message for each that is released.
 #[derive(Drop)]
 pub(crate) struct Kept {
     list: Vec<Message>,
-    // How many places at the front of the list are those of messages that were let go.
+    // How many messages at the front of the list are released.
     dropped: usize,
-    // How many messages were let go in all.
+    // How many messages were released in all.
     gone: u64,
-    // For how many messages more the list has room.
+    // How many more messages the list has room for.
     spare: u32,
 }
 
@@ -46,21 +46,21 @@ impl Kept {
         }
     }
 
-    /// How many messages there were, the ones that were let go included.
+    /// How many messages there were, including the released ones.
     pub(crate) fn sent(&self) -> u64
         ensures { result ≡ sent_in self.now }
     {
         self.gone + (self.list.len() - self.dropped) as u64
     }
 
-    /// How many messages were let go.
+    /// How many messages were released.
     pub(crate) fn gone(&self) -> u64
         ensures { result ≡ self.now.gone }
     {
         self.gone
     }
 
-    /// For how many messages more there is room.
+    /// How many more messages there is room for.
     pub(crate) fn spare(&self) -> u32
         ensures { result ≡ self.now.spare }
     {
@@ -74,7 +74,7 @@ impl Kept {
         self.list.split_at(self.dropped).1
     }
 
-    /// Makes room for at least `n` messages more.
+    /// Makes room for at least `n` more messages.
     pub(crate) fn reserve(&mut self, n: u32) -> Result<(), AllocError>
         ensures ok { OnOk result (self.new ≡ kept_with_spare n self.old) }
         ensures err { OnErr result (self.new ≡ self.old) }
@@ -93,7 +93,7 @@ impl Kept {
         Ok(())
     }
 
-    /// Makes room for at least `n` messages more, and counts all the room that there is then.
+    /// Makes room for at least `n` more messages, and counts all the room that there is then.
     pub(crate) fn make_ready(&mut self, n: u32) -> Result<(), AllocError>
         ensures ok { OnOk result (n ≤ self.new.spare) }
         ensures same { self.new ≡ record self.old { spare = self.new.spare } }
@@ -110,7 +110,7 @@ impl Kept {
         Ok(())
     }
 
-    /// Puts a message with the next number behind the others, and answers the number.
+    /// Appends a message with the next number, and returns the number.
     pub(crate) fn push(&mut self, body: Body, moment: Moment) -> u64
         requires { 1 ≤ self.old.spare }
         ensures number { result ≡ sent_in self.old + 1 }
@@ -122,8 +122,8 @@ impl Kept {
         seq
     }
 
-    /// Puts the Move of these pointers behind the others, with the next number and these flags, and with their places
-    /// counted from an origin.
+    /// Appends the Move of these pointers, with the next number and these flags, and with positions that count from an
+    /// origin.
     pub(crate) fn push_moves(
         &mut self,
         device: DeviceId,
@@ -140,7 +140,7 @@ impl Kept {
         self.spare -= 1;
     }
 
-    /// Puts a key message behind the others, with the next number.
+    /// Appends a key message with the next number.
     pub(crate) fn push_key(&mut self, message: &KeyMsg, moment: Moment)
         requires { 1 ≤ self.old.spare }
         ensures { self.new ≡ kept_with (KeyBody message.now) moment self.old }
@@ -151,7 +151,7 @@ impl Kept {
         self.spare -= 1;
     }
 
-    /// Lets the first `count` messages go.
+    /// Releases the first `count` messages.
     pub(crate) fn release(&mut self, count: usize)
         requires { count ≤ length self.old.messages }
         ensures { self.new ≡ kept_after count self.old }
@@ -164,7 +164,7 @@ impl Kept {
         }
     }
 
-    /// Lets all messages go, and keeps the room for more.
+    /// Releases all messages, and keeps the room for more.
     pub(crate) fn let_each_go(&mut self)
         ensures { self.new ≡ kept_empty self.old }
     {
@@ -173,7 +173,7 @@ impl Kept {
         self.dropped = 0;
     }
 
-    /// Lets all messages go, and gives back the memory of their list.
+    /// Releases all messages, and gives back the memory of their list.
     pub(crate) fn let_all_go(&mut self)
         ensures { self.new ≡ kept_none self.old }
     {
@@ -184,7 +184,7 @@ impl Kept {
     }
 }
 
-/// Takes the first `n` messages from a list.
+/// Removes the first `n` messages of a list.
 fn cut_front(list: &mut Vec<Message>, n: usize)
     requires { n ≤ vec_len list.old }
     ensures items { list.new.items ≡ drop n list.old.items }
@@ -196,7 +196,7 @@ fn cut_front(list: &mut Vec<Message>, n: usize)
     list.truncate(len - n);
 }
 
-/// The lesser of two numbers, and at most the greatest of the type.
+/// The lesser of two numbers, saturated at the greatest of the type.
 fn least_of(a: u64, b: u64) -> u32
     ensures within_a { result ≤ a }
     ensures within_b { result ≤ b }
@@ -205,7 +205,7 @@ fn least_of(a: u64, b: u64) -> u32
     a.min(b).min(u64::from(u32::MAX)) as u32
 }
 
-/// A key message once more, field by field: so it is written where it goes, and not copied on the way.
+/// A copy of a key message, field by field: so it is written where it goes, and not copied on the way.
 fn copy_of(message: &KeyMsg) -> KeyMsg
     ensures { result ≡ message.now }
 {

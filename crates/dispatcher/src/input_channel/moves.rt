@@ -8,8 +8,8 @@ use input_types::{
     Body, DeviceId, Message, Moment, Motion, MotionAction, Pixel, Pointer, Pointers,
 };
 
-/// Lists pointers in a list that has none, with their places counted from an origin. It is inlined, so that the list is
-/// filled where it lies.
+/// Fills an empty list with pointers whose positions count from an origin. It is inlined, so that the list is filled
+/// where it lies.
 #[inline(always)]
 pub fn list_from(listed: &mut Pointers, pointers: &Pointers, origin: Pixel)
     requires { listed.old ≡ [] }
@@ -21,7 +21,7 @@ pub fn list_from(listed: &mut Pointers, pointers: &Pointers, origin: Pixel)
     }
 }
 
-/// A place counted from an origin, kept at the ends of its type.
+/// A coordinate counted from an origin, saturated at the ends of its type.
 fn place_from(origin: Pixel, at: Pixel) -> Pixel
     ensures { result ≡ place_from origin at }
 {
@@ -31,8 +31,8 @@ fn place_from(origin: Pixel, at: Pixel) -> Pixel
     }
 }
 
-/// Puts the Move of these pointers behind a list of messages. It is put there with no pointers, and these are listed in
-/// its place.
+/// Appends the Move of these pointers to a list of messages. It is appended without pointers, which are then listed in
+/// place.
 pub(crate) fn push_moves(
     list: &mut Vec<Message>,
     seq: u64,
@@ -68,7 +68,7 @@ fn still(device: DeviceId, flags: u32) -> Motion
     }
 }
 
-/// Lists pointers in the message of a Move of none, with their places counted from an origin.
+/// Lists pointers in the message of a Move of none, with positions that count from an origin.
 #[inline(always)]
 fn fill(message: &mut Message, device: DeviceId, flags: u32, pointers: &Pointers, origin: Pixel)
     requires { message.old.body ≡ MotionBody (move_of device flags []) }

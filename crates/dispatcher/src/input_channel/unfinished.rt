@@ -44,7 +44,7 @@ pub(crate) fn deliver(
     }
 }
 
-/// The place of a message among the unfinished ones.
+/// The index of a message among the unfinished ones.
 pub(crate) fn place_of(unfinished: &[Unfinished], seq: u64) -> Option<usize>
     ensures { result ≡ position (λ u. u.seq == seq) unfinished.now }
 {

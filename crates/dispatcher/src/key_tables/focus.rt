@@ -9,7 +9,7 @@ use focus_resolver::Focusable;
 use input_types::DisplayId;
 use window_snapshot::{Snapshot, mask_has};
 
-/// The channels that may have the focus of each display: those of a mask with a window there that may have it.
+/// The channels that may have the focus of each display: those of a mask that have a focusable window there.
 pub fn focusable(windows: &Snapshot, live: u64) -> Focusable
     ensures { (y c : ℕ) → y < 4 → may_by result.masks y c ≡ (mask_has live c && is_focusable_on windows.now y c) }
 {

@@ -59,7 +59,7 @@ impl<'a> PointersById<'a> {
         self.ids.bits() & set.bits() != 0
     }
 
-    /// Sets a list to those of them whose ids are in the set, in the same order.
+    /// Fills a list with the pointers whose ids are in the set, in the same order.
     #[inline(always)]
     pub fn part_into(&self, set: Bits32, listed: &mut Pointers)
         ensures { listed.new ≡ listing (λ i. is_in i set) self.now }

@@ -10,8 +10,9 @@ use input_types::{DeviceId, FLAG_OBSCURED, FLAG_PARTLY_OBSCURED};
 use std::marker::Model;
 use window_snapshot::{mask_has, mask_less};
 
-/// What lay over each of the windows 1 to 64 where it was given pointers of the devices 1 to 8, since it began to hold
-/// one. A window that holds none keeps what it had, for the cancels that it is sent, until it is given one again.
+/// What lay over each of the windows 1 to 64 when it was given pointers of the devices 1 to 8, since it began to hold
+/// one. A window that no longer holds any keeps what it had, for the cancels that it is sent, until it is given one
+/// again.
 #[derive(Drop)]
 pub struct Covers {
     /// For each device, starting with device 1, the windows that a window of another owner obscured.
@@ -39,7 +40,7 @@ impl Covers {
         }
     }
 
-    /// Windows are given a pointer of a device, of which the windows of the mask `held` held something before.
+    /// Records that windows are given a pointer of a device. The windows of the mask `held` held something before.
     pub fn give(&mut self, gift: &Gift, held: u64)
         ensures { Gives self.old self.new gift.now held }
     {
@@ -47,7 +48,7 @@ impl Covers {
         give_in(&mut self.partly, gift, held, gift.partly);
     }
 
-    /// The flags of what a window is sent for a device, but of a touch outside.
+    /// The flags of the motions that a window is sent for a device, except for touches outside.
     pub fn flags(&self, window: u32, device: DeviceId) -> u32
         ensures { result ≡ flags_of (cover_in self.now window device) }
     {
@@ -86,14 +87,14 @@ fn put(masks: &mut [u64; 8], device: DeviceId, mask: u64)
     masks[place] = mask;
 }
 
-/// A flag where it is set.
+/// A flag, if it is set.
 fn flag_where(set: bool, flag: u32) -> u32
     ensures { result ≡ (if set then flag else 0) }
 {
     if set { flag } else { 0 }
 }
 
-/// A mask of windows after some of them were given a pointer, of which those of the mask `found` are to be in it.
+/// A mask of windows, updated for windows that were given a pointer: those of the mask `found` are added.
 fn after(mask: u64, given: u64, held: u64, found: u64) -> u64
     ensures { (w : ℕ) →
         mask_has result w ≡ bit_after (mask_has given w) (mask_has held w) (mask_has found w) (mask_has mask w) }

@@ -34,8 +34,8 @@ fn found(device: DeviceId, windows: u64, at: Pixel, shown: &Snapshot, reach: u64
     }
 }
 
-/// What lies over the windows that a motion gives its pointer with this mark, its own; None if it gives nothing. The
-/// mask is that of the channels that the device can reach.
+/// What lies over the windows to which a motion with this mark gives its pointer; None if it gives nothing. The mask
+/// has the channels that the device can reach.
 pub fn gift_of(mark: &Mark, motion: &Motion, shown: &Snapshot, reach: u64) -> Option<Gift>
     ensures { (s : Scene) → s.windows ≡ shown.now → s.reach motion.now.device ≡ mask_has reach
         → IsGiftOf s mark.now motion.now result }

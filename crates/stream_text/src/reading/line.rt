@@ -84,7 +84,7 @@ fn anr(bytes: &[u8]) -> Option<StreamLine>
     Some(StreamLine::Anr { clock, id, seq })
 }
 
-/// Puts what was read into a place, and answers whether something was.
+/// Writes what was read to a variable, if something was, and returns whether it was.
 #[inline(always)]
 fn put(read: Option<StreamLine>, says: &mut StreamLine) -> bool
     ensures { cond result (Some says.new) None ≡ read }
@@ -98,7 +98,7 @@ fn put(read: Option<StreamLine>, says: &mut StreamLine) -> bool
     }
 }
 
-/// Reads a line as `StreamLine::read` does into a place, and answers whether it has one of the four forms.
+/// Reads a line as `StreamLine::read` does, into a variable, and returns whether it has one of the four forms.
 #[tactic(auto, unfolding(crate::specs::StreamLine::line_of))]
 pub(crate) fn read_line(line: &[u8], says: &mut StreamLine) -> bool
     ensures { cond result (Some says.new) None ≡ line_of line.now }

@@ -21,7 +21,7 @@ fn focus(bytes: &[u8]) -> Option<bool>
     Some(n == 1)
 }
 
-/// Reads what a message of this number and moment says that is no motion, and answers whether it says something.
+/// Reads a message with this number and time that is no motion, and returns whether it is one.
 #[inline(never)]
 #[tactic(auto, unfolding(crate::specs::MessageLine::body_of))]
 fn other_body(seq: u64, moment: Moment, bytes: &[u8], says: &mut StreamLine) -> bool
@@ -46,7 +46,7 @@ fn other_body(seq: u64, moment: Moment, bytes: &[u8], says: &mut StreamLine) -> 
     true
 }
 
-/// Reads what a message of this number and moment says, and answers whether it says something.
+/// Reads a message with this number and time, and returns whether it is one.
 #[inline(always)]
 #[tactic(auto, unfolding(crate::specs::MessageLine::body_of))]
 fn body(seq: u64, moment: Moment, bytes: &[u8], says: &mut StreamLine) -> bool
@@ -58,7 +58,7 @@ fn body(seq: u64, moment: Moment, bytes: &[u8], says: &mut StreamLine) -> bool
     }
 }
 
-/// Reads the message that a line without its newline spells, and answers whether it spells one.
+/// Reads the message that a line without its newline spells, and returns whether it spells one.
 #[inline(always)]
 #[tactic(auto, unfolding(crate::specs::MessageLine::message_of))]
 pub(crate) fn message(bytes: &[u8], says: &mut StreamLine) -> bool

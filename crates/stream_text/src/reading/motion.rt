@@ -65,7 +65,7 @@ fn pointer(least: u8, bytes: &[u8]) -> Option<(u8, Pixel, &[u8])>
     Some((id as u8, Pixel { x, y }, rest))
 }
 
-/// Reads the pointers up to the end of the line into a list, and answers whether nothing else stands there.
+/// Reads the pointers up to the end of the line into a list, and returns whether nothing else stands there.
 #[inline(always)]
 #[tactic(auto, unfolding(crate::specs::MessageLine::pointers_at))]
 fn pointers(list: &mut Pointers, bytes: &[u8]) -> bool
@@ -93,7 +93,7 @@ fn pointers(list: &mut Pointers, bytes: &[u8]) -> bool
     true
 }
 
-/// Reads the line of a message of this number and moment behind `motion `, and answers whether it is one.
+/// Reads the line of a message with this number and time after `motion `, and returns whether it is one.
 #[inline(always)]
 #[tactic(auto, unfolding(crate::specs::MessageLine::motion_of))]
 pub(crate) fn motion(seq: u64, moment: Moment, bytes: &[u8], says: &mut StreamLine) -> bool

@@ -25,7 +25,7 @@ pub(crate) fn past<'a>(word: &str, bytes: &'a [u8]) -> Option<&'a [u8]>
     Some(rest)
 }
 
-/// A number whose first digits are those of `first`, with all further digits in front, at most `max`.
+/// A number whose first digits are those of `first`, with all following digits, at most `max`.
 #[inline(always)]
 fn digits(first: u64, max: u64, bytes: &[u8]) -> Option<(u64, &[u8])>
     ensures { option_map (λ read. (read.0, read.1.now)) result ≡ at_most max (digits_from first bytes.now) }

@@ -17,7 +17,7 @@ use std::alloc::Global;
 pub struct StreamChannel {
     /// The number of the channel, 1 to 64.
     pub id: u32,
-    /// The number of the line behind the section's first one, which is that of its first message. Lines are numbered
+    /// The number of the line after the section's first one, which is that of its first message. Lines are numbered
     /// from 1.
     pub first_line: u64,
     pub messages: Vec<Message>,
@@ -110,12 +110,11 @@ fn streams(alloc: Global, bytes: &[u8]) -> Result<StreamFile, StreamError>
 }
 
 impl StreamReader {
-    /// The streams of a stream file: an order text that may be absent and is passed over, sections of channels, and
-    /// namings.
+    /// The streams of a stream file: perhaps an order, which is skipped, then sections of channels, and ANRs.
     ///
-    /// It accepts just the texts that `order_text`, `channel_text` and `anr_text` append one after another, where
-    /// the k-th message of a section has number k and the end of a section tells how many there are. The refusal is
-    /// that of the first line that has not its form, does not fit there, or is missing. The last line has to end in a
+    /// It accepts exactly the texts that `order_text`, `channel_text` and `anr_text` append one after another, with the
+    /// k-th message of a section numbered k and the number of messages at the end of a section. The refusal is that of
+    /// the first line that does not have its form, does not fit there, or is missing. The last line must end in a
     /// newline.
     pub fn read(alloc: Global, bytes: &[u8]) -> Result<StreamFile, StreamError>
         ensures exact { Answers result (streams_in (events_of bytes.now)) }

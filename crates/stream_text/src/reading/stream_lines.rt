@@ -14,14 +14,14 @@ use text_lines::{FirstLine, first_line};
 pub(crate) enum Place {
     /// Behind the order, or a section.
     Between,
-    /// In the section of a channel, behind so many of its messages.
+    /// In the section of a channel, after this many of its messages.
     Section { id: u32, told: u64 },
     /// Behind a naming.
     Anrs,
 }
 
 impl Place {
-    /// Where the file stands behind a line; None where the line may not stand there.
+    /// Where the file stands after a line; None if the line may not stand there.
     fn follow(self, line: &StreamLine) -> Option<Place>
         ensures { result ≡ follow self line.now }
     {
@@ -70,7 +70,7 @@ impl Place {
     }
 }
 
-/// Reads what a line says that may stand at this place, and answers the place behind it.
+/// Reads a line that may stand at this point, and returns the point after it.
 fn send(place: Place, line: FirstLine<'_>, says: &mut StreamLine) -> Option<Place>
     ensures value { option_map (λ next. (says.new, next)) result ≡ told place (line.entry.text.now, line.entry.ended) }
     ensures says { IfSome result (λ _. CanSay says.new) }
@@ -106,8 +106,8 @@ impl<'a> Model for StreamLines<'a> {
 }
 
 impl<'a> StreamLines<'a> {
-    /// The lines of a stream file behind the order text that may stand in front, which is passed over. It answers the
-    /// number of a bad or missing line of the order.
+    /// The lines of a stream file, after an order that may stand in front and is skipped. Returns the number of a bad
+    /// or missing line of the order.
     #[tactic(auto, unfolding(crate::specs::StreamFile::events_of))]
     pub fn new(bytes: &'a [u8]) -> Result<StreamLines<'a>, u64>
         ensures ok { IfOk result (λ lines. events_of bytes.now ≡ lines.events) }
@@ -147,8 +147,8 @@ impl<'a> StreamLines<'a> {
         }
     }
 
-    /// The same, with what the line says put into `says`, and its number alone answered. Where no line is answered,
-    /// anything may stand there.
+    /// The same, but what the line says is written to `says`, and only its number is returned. If no line is returned,
+    /// `says` may have any value.
     pub fn next_into(&mut self, says: &mut StreamLine) -> Result<Option<u64>, u64>
         ensures lines { Goes self.old (next_line result says.new) self.new }
         ensures says { IfOk result (λ line. IfSome line (λ _. CanSay says.new)) }

@@ -5,7 +5,7 @@ ghost use Rattle.stream_text.specs.Spelling.{canceled, flag_words, has_flag, wor
 use crate::writing::prepend::{Room, prepend_word};
 use input_types::{FLAG_CANCELED, FLAG_OBSCURED, FLAG_PARTLY_OBSCURED, Motion};
 
-/// Puts ` canceled` in front of `end` if the flags are `FLAG_CANCELED`, and answers where it begins.
+/// Writes ` canceled` in front of `end` if the flags are `FLAG_CANCELED`, and returns where it begins.
 pub(crate) fn prepend_canceled(line: &mut Room, end: usize, flags: u32) -> usize
     requires { (9 ≤ end) × (end ≤ 1280) }
     ensures within { (result ≤ end) × (end ≤ result + 9) }
@@ -18,7 +18,7 @@ pub(crate) fn prepend_canceled(line: &mut Room, end: usize, flags: u32) -> usize
     }
 }
 
-/// Puts the word of a mark in front of `end` if the mark is there, and answers where it begins.
+/// Writes the word of a mark in front of `end` if the mark is there, and returns where it begins.
 fn prepend_mark(line: &mut Room, end: usize, word: &str, is_there: bool) -> usize
     requires { (length word.now ≤ end) × (end ≤ 1280) }
     ensures within { (result ≤ end) × (end ≤ result + length word.now) }
@@ -38,7 +38,7 @@ fn has_flag(flag: u32, flags: u32) -> bool
     flags & flag != 0
 }
 
-/// Puts the words of a motion's flags in front of `end`, and answers where they begin.
+/// Writes the words of a motion's flags in front of `end`, and returns where they begin.
 #[tactic(auto, unfolding(crate::specs::Spelling::flag_words))]
 pub(crate) fn prepend_flags(line: &mut Room, end: usize, motion: &Motion) -> usize
     requires { (25 ≤ end) × (end ≤ 1280) }

@@ -1,7 +1,7 @@
 //! Numbers that begin with the digits of the number before.
 //!
-//! The messages of a channel are counted and their moments rise: all digits but the last few are mostly those of the
-//! line before. They are kept, and are written by one copy.
+//! The messages of a channel are counted and their times rise, so all digits but the last few are usually those of the
+//! line before. They are kept, and one copy writes them.
 ghost use Rattle.std.specs.Prelude.{◌≡◌, ◌+◌, ◌-◌, ◌<◌, ◌≤◌, ◌++◌, length, drop, take, decimal};
 
 use crate::writing::prepend::{Room, prepend_number, put_triple};
@@ -35,7 +35,7 @@ impl Digits {
         }
     }
 
-    /// Puts the digits in front of `end`, and answers where they begin.
+    /// Writes the digits in front of `end`, and returns where they begin.
     #[inline(always)]
     fn prepend(&self, line: &mut Room, end: usize) -> usize
         requires { (16 ≤ end) × (end ≤ 1280) }
@@ -56,11 +56,11 @@ impl Digits {
     }
 }
 
-/// Writes the numbers of messages, each mostly one above the one before.
+/// Writes the numbers of messages, each usually one above the one before.
 #[derive(Drop)]
 pub(crate) struct Counted {
     digits: Digits,
-    // The number whose digits but for the last three are kept, with zeros for these.
+    // The number whose digits, except for the last three, are kept, with zeros for these.
     base: u64,
 }
 
@@ -82,7 +82,7 @@ impl Counted {
         }
     }
 
-    /// Puts the decimal digits of a number in front of `end`, and answers where they begin.
+    /// Writes the decimal digits of a number in front of `end`, and returns where they begin.
     #[inline(always)]
     pub(crate) fn prepend(&mut self, line: &mut Room, end: usize, number: u64) -> usize
         requires { (23 ≤ end) × (end ≤ 1280) }
@@ -111,11 +111,11 @@ impl Counted {
     }
 }
 
-/// Writes moments, each mostly in the second of the one before.
+/// Writes times, each usually in the same second as the one before.
 #[derive(Drop)]
 pub(crate) struct Timed {
     digits: Digits,
-    // The moment whose digits but for the last six are kept, with zeros for these.
+    // The time whose digits, except for the last six, are kept, with zeros for these.
     base: u64,
 }
 
@@ -137,7 +137,7 @@ impl Timed {
         }
     }
 
-    /// Puts the decimal digits of a moment in front of `end`, and answers where they begin.
+    /// Writes the decimal digits of a time in front of `end`, and returns where they begin.
     #[inline(always)]
     pub(crate) fn prepend(&mut self, line: &mut Room, end: usize, moment: u64) -> usize
         requires { (23 ≤ end) × (end ≤ 1280) }

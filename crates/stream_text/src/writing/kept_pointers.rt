@@ -82,7 +82,7 @@ impl KeptPointers {
         }
     }
 
-    /// Puts the newline alone at the end of the place, and answers where it stands.
+    /// Writes the newline alone at the end of the buffer, and returns where it stands.
     pub(crate) fn put_none(&mut self, line: &mut Room) -> usize
         ensures at { result ≡ 1279 }
         ensures kept { self.new.at ≡ 1279 }
@@ -101,7 +101,7 @@ impl KeptPointers {
         are_same(self.list.as_slice(), list.as_slice())
     }
 
-    /// Puts pointers and the newline at the end of the place, and answers where they begin.
+    /// Writes pointers and the newline at the end of the buffer, and returns where they begin.
     #[inline(always)]
     pub(crate) fn put_anew(&mut self, line: &mut Room, list: &Pointers) -> usize
         ensures at { result ≡ self.new.at }
@@ -116,7 +116,7 @@ impl KeptPointers {
         at
     }
 
-    /// Puts pointers and the newline at the end of the place where others stand there, and answers where they begin. No
+    /// Writes pointers and the newline at the end of the buffer if others stand there, and returns where they begin. No
     /// Move is kept any more.
     #[inline(always)]
     pub(crate) fn put(&mut self, line: &mut Room, list: &Pointers) -> usize

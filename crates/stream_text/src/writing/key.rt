@@ -43,7 +43,7 @@ fn prepend_key_end(line: &mut Room, end: usize, down: bool, flags: u32, repeat: 
     prepend_direction(line, at, down, flags)
 }
 
-/// Puts a key message in front of `end`, and answers where it begins.
+/// Writes a key message in front of `end`, and returns where it begins.
 pub(crate) fn prepend_key_message(line: &mut Room, end: usize, told: &KeyMsg) -> usize
     requires { (123 ≤ end) × (end ≤ 1280) }
     ensures within { (result ≤ end) × (end ≤ result + 123) }

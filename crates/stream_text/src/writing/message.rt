@@ -12,7 +12,7 @@ use input_types::{Body, Message, MotionAction};
 use std::alloc::AllocError;
 use std::marker::Model;
 
-/// Puts what a message says at the end of the place, and answers where it begins. No Move is kept then.
+/// Writes what a message says at the end of the buffer, and returns where it begins. No Move is kept then.
 #[inline(never)]
 fn prepend_body(line: &mut Room, kept: &mut KeptPointers, told: &Body) -> usize
     requires { Holds line.old kept.old.list kept.old.at }
@@ -35,7 +35,7 @@ fn prepend_body(line: &mut Room, kept: &mut KeptPointers, told: &Body) -> usize
     }
 }
 
-/// Puts what a message says at the end of the place where it does not stand there yet, and answers where it begins.
+/// Writes what a message says at the end of the buffer if it does not stand there yet, and returns where it begins.
 #[inline(always)]
 fn prepend_end(line: &mut Room, kept: &mut KeptPointers, told: &Body) -> usize
     requires holds { Holds line.old kept.old.list kept.old.at }
@@ -54,7 +54,7 @@ fn prepend_end(line: &mut Room, kept: &mut KeptPointers, told: &Body) -> usize
     prepend_body(line, kept, told)
 }
 
-/// Puts the number and the moment of a message in front of `end`, and answers where they begin.
+/// Writes the number and the time of a message in front of `end`, and returns where they begin.
 #[inline(always)]
 #[tactic(auto, unfolding(crate::specs::Spelling::numbered))]
 fn prepend_numbered(
@@ -86,7 +86,7 @@ pub(crate) fn add_messages(text: &mut Vec<u8>, messages: &[Message]) -> Result<(
     Ok(())
 }
 
-/// Writes lines of messages, each of which it makes in one place that it keeps.
+/// Writes the lines of messages. It makes each of them in one buffer that it keeps.
 #[derive(Drop)]
 pub struct LineWriter {
     line: Room,
@@ -119,9 +119,9 @@ impl LineWriter {
 
     /// Appends the line of a message. If memory runs out, `out` is as before.
     ///
-    /// A motion has ` canceled` in it if its flags but the marks are `FLAG_CANCELED`, and ` obscured` and ` partly` for
-    /// its marks; the up of a key has ` canceled` if its flags are `FLAG_CANCELED`. Other flags, the index of an action
-    /// that has none, and the flags of a key's down have no spelling and are not told.
+    /// A motion has ` canceled` in it if its flags except the marks are `FLAG_CANCELED`, and ` obscured` and ` partly`
+    /// for its marks. The up of a key has ` canceled` if its flags are `FLAG_CANCELED`. Other flags, the index of an
+    /// action that has none, and the flags of a key's down have no spelling and are not written.
     pub fn message(&mut self, message: &Message, out: &mut Vec<u8>) -> Result<(), AllocError>
         ensures ok { OnOk result (out.new.items ≡ out.old.items ++ message_line message.now) }
         ensures err { OnErr result (out.new.items ≡ out.old.items) }

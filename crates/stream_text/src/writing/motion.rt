@@ -38,7 +38,7 @@ fn prepend_action(line: &mut Room, end: usize, motion: &Motion) -> usize
     }
 }
 
-/// Puts the word `motion` and the number of a device in front of an action, and answers where they begin.
+/// Writes the word `motion` and the number of a device in front of an action, and returns where they begin.
 #[inline(always)]
 fn prepend_device(line: &mut Room, end: usize, device: u8) -> usize
     requires { (38 ≤ end) × (end ≤ 1280) }
@@ -50,7 +50,7 @@ fn prepend_device(line: &mut Room, end: usize, device: u8) -> usize
     prepend_word(line, at, "motion ")
 }
 
-/// Puts what stands in front of the pointers of a motion in front of `end`, and answers where it begins.
+/// Writes the part of a motion before its pointers in front of `end`, and returns where it begins.
 #[inline(always)]
 fn prepend_head(line: &mut Room, end: usize, told: &Motion) -> usize
     requires { (96 ≤ end) × (end ≤ 1280) }
@@ -61,7 +61,7 @@ fn prepend_head(line: &mut Room, end: usize, told: &Motion) -> usize
     prepend_device(line, at, told.device.get())
 }
 
-/// Puts a motion at the end of the place, and answers where it begins. No Move is kept then.
+/// Writes a motion at the end of the buffer, and returns where it begins. No Move is kept then.
 #[inline(always)]
 pub(crate) fn prepend_motion(line: &mut Room, kept: &mut KeptPointers, told: &Motion) -> usize
     requires { Holds line.old kept.old.list kept.old.at }
@@ -74,7 +74,7 @@ pub(crate) fn prepend_motion(line: &mut Room, kept: &mut KeptPointers, told: &Mo
     prepend_head(line, at, told)
 }
 
-/// Puts a Move with flags 0 at the end of the place where it does not stand there yet, and answers where it begins.
+/// Writes a Move with flags 0 at the end of the buffer if it does not stand there yet, and returns where it begins.
 #[inline(always)]
 pub(crate) fn prepend_move(line: &mut Room, kept: &mut KeptPointers, told: &Motion) -> usize
     requires plain { (told.now.action ≡ Move) × (told.now.flags ≡ 0) }

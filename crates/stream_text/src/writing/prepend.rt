@@ -1,7 +1,7 @@
 //! Words and numbers in front of what stands at the end of a line.
 //!
-//! A line is made from its end to its front. So the digits of a number are put down as dividing gives them, and nothing
-//! asks beforehand how many there are.
+//! A line is made from its end to its front. So the digits of a number are written in the order in which division
+//! yields them, and nobody has to know beforehand how many there are.
 ghost use Rattle.std.specs.Prelude.{◌≡◌, ◌+◌, ◌-◌, ◌<◌, ◌≤◌, ◌++◌, length, drop, decimal};
 ghost use Rattle.std.specs.Fmt.{signed_decimal};
 ghost use Rattle.stream_text.specs.Spelling.{labeled};
@@ -9,14 +9,14 @@ ghost use Rattle.stream_text.specs.Triple.{triple_digits};
 
 use crate::writing::digits::triple_of;
 
-/// The bytes of the place in which a line is made: more than any line has.
+/// The bytes of the buffer in which a line is made: more than any line has.
 pub(crate) const ROOM: usize = 1280;
 
-/// The place in which a line is made.
+/// The buffer in which a line is made.
 pub(crate) type Room = [u8; ROOM];
 
-/// Puts the three digits of a number in front of `end`, and answers how many of them it has without leading zeros. The
-/// byte in front of the digits is lost.
+/// Writes the three digits of a number in front of `end`, and returns how many it has without leading zeros. The byte
+/// in front of the digits is lost.
 #[inline(always)]
 pub(crate) fn put_triple(line: &mut Room, end: usize, number: u64) -> usize
     requires { (number < 1000) × (4 ≤ end) × (end ≤ 1280) }
@@ -33,7 +33,7 @@ pub(crate) fn put_triple(line: &mut Room, end: usize, number: u64) -> usize
     (triple % 256) as usize
 }
 
-/// Puts the decimal digits of a number in front of `end`, and answers where they begin.
+/// Writes the decimal digits of a number in front of `end`, and returns where they begin.
 #[inline(always)]
 pub(crate) fn prepend_number(line: &mut Room, end: usize, number: u64) -> usize
     requires { (23 ≤ end) × (end ≤ 1280) }
@@ -51,7 +51,7 @@ pub(crate) fn prepend_number(line: &mut Room, end: usize, number: u64) -> usize
     at - put_triple(line, at, left)
 }
 
-/// Puts a word in front of `end`, and answers where it begins.
+/// Writes a word in front of `end`, and returns where it begins.
 #[inline(always)]
 pub(crate) fn prepend_word(line: &mut Room, end: usize, word: &str) -> usize
     requires { (length word.now ≤ end) × (end ≤ 1280) }
@@ -68,7 +68,7 @@ pub(crate) fn prepend_word(line: &mut Room, end: usize, word: &str) -> usize
     at
 }
 
-/// Puts a number that may be negative in front of `end`, and answers where it begins.
+/// Writes a number that may be negative in front of `end`, and returns where it begins.
 #[inline(always)]
 pub(crate) fn prepend_signed(line: &mut Room, end: usize, number: i32) -> usize
     requires { (23 ≤ end) × (end ≤ 1280) }
@@ -83,7 +83,7 @@ pub(crate) fn prepend_signed(line: &mut Room, end: usize, number: i32) -> usize
     at - 1
 }
 
-/// Puts a number behind some words in front of `end`, and answers where the words begin.
+/// Writes some words and a number in front of `end`, and returns where the words begin.
 #[inline(always)]
 #[tactic(auto, unfolding(crate::specs::Spelling::labeled))]
 pub(crate) fn prepend_labeled(line: &mut Room, end: usize, words: &str, number: u64) -> usize

@@ -75,8 +75,8 @@ pub fn channel_line_text(id: u32, name: &str, out: &mut Vec<u8>) -> Result<(), A
     out.extend_from_slice(&text)
 }
 
-/// Appends the last line of a channel's section: how many messages were sent, received and finished. After want of
-/// memory `out` is as before.
+/// Appends the last line of a channel's section: how many messages were sent, received and finished. If memory runs
+/// out, `out` is as before.
 pub fn end_line_text(
     id: u32,
     sent: u64,
@@ -92,8 +92,8 @@ pub fn end_line_text(
     out.extend_from_slice(&text)
 }
 
-/// Appends the line of a naming: at `clock` the channel was named unresponsive for its message `seq`. After want of
-/// memory `out` is as before.
+/// Appends the line of an ANR: at `clock` the channel was reported unresponsive for its message `seq`. If memory runs
+/// out, `out` is as before.
 pub fn anr_text(clock: Moment, channel: u32, seq: u64, out: &mut Vec<u8>) -> Result<(), AllocError>
     ensures ok { OnOk result (out.new.items ≡ out.old.items ++ anr_line clock channel seq) }
     ensures err { OnErr result (out.new.items ≡ out.old.items) }

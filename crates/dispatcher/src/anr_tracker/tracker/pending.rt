@@ -6,14 +6,14 @@ ghost use Rattle.dispatcher.specs.AnrTracker.Due.{due_of, NoneBelow};
 use super::Tracker;
 
 impl Tracker {
-    /// A mask outside of which no channel is due.
+    /// A mask that has all channels with a due time.
     pub fn pending(&self) -> u64
         ensures { (c : ℕ) → mask_has result c ≡ false → due_of self.now c ≡ None }
     {
         self.pending
     }
 
-    /// A moment before which no channel is due. It does not search.
+    /// A time before which no channel is due. It does not search.
     pub fn least(&self) -> u64
         ensures { NoneBelow (due_of self.now) result }
     {

@@ -1,4 +1,4 @@
-//! What is asked of the channels.
+//! What can be asked about the channels.
 ghost use Rattle.std.specs.Prelude.{◌≡◌, true};
 ghost use Rattle.window_snapshot.specs.Mask.{is_channel};
 ghost use Rattle.dispatcher.specs.AnrTracker.Due.{IsFirst};
@@ -13,7 +13,7 @@ use input_types::{Message, Moment};
 use window_snapshot::mask_has;
 
 impl Channels {
-    /// How far a channel has come; None exactly where none was opened with this number.
+    /// How far a channel got; None exactly if no channel was opened with this number.
     pub fn counts(&self, channel: u32) -> Option<Counts>
         ensures { result ≡ counts_in self.now channel }
     {
@@ -30,8 +30,8 @@ impl Channels {
         })
     }
 
-    /// When a channel is due to be named: its limit after the delivery of its oldest message that is published and not
-    /// finished; None exactly where it is not able, or has no such message.
+    /// When a channel is due to be reported: its limit after the delivery of its oldest published and unfinished
+    /// message. None exactly if the channel is not able, or has no such message.
     pub fn due(&self, channel: u32) -> Option<u64>
         requires { is_channel channel ≡ true }
         ensures { result ≡ due_moment self.now channel }
@@ -39,16 +39,16 @@ impl Channels {
         self.tracker.due(channel)
     }
 
-    /// The least moment at which a channel is due to be named, and the channel, the least one where several are due
-    /// at it; None exactly where no channel is due.
+    /// The first time at which a channel is due to be reported, and the channel, the lowest one if several are due
+    /// then. None exactly if no channel is due.
     pub fn first_due(&self) -> Option<(u64, u32)>
         ensures { IsFirst (due_moment self.now) result }
     {
         self.tracker.first_due()
     }
 
-    /// The number and the delivery of the oldest message of a channel that is published and not finished; None exactly
-    /// where every published message is finished.
+    /// The number and the delivery of the oldest published and unfinished message of a channel; None exactly if every
+    /// published message is finished.
     pub fn oldest(&self, channel: u32) -> Option<(u64, Moment)>
         requires { IsOpened self.now channel }
         ensures { result ≡ oldest_of (channel_of self.now channel) }
@@ -56,7 +56,7 @@ impl Channels {
         self.channels[channel as usize - 1].oldest_unfinished()
     }
 
-    /// The messages of a channel, but for those that were let go.
+    /// The messages of a channel that were not released.
     pub fn messages(&self, channel: u32) -> &[Message]
         requires { IsOpened self.now channel }
         ensures { result.now ≡ (channel_of self.now channel).messages }
@@ -64,7 +64,7 @@ impl Channels {
         self.channels[channel as usize - 1].messages()
     }
 
-    /// What the window of a channel was sent and is not told the end of, from which cancels are made.
+    /// The pointers and keys still down in the stream of a channel's window, from which cancels are made.
     pub fn input(&self, channel: u32) -> &InputState
         requires { IsOpened self.now channel }
         ensures { result.now ≡ input_of self.now channel }
@@ -72,7 +72,7 @@ impl Channels {
         &self.inputs[channel as usize - 1]
     }
 
-    /// The namings so far but for those that were let go, the first one first.
+    /// The ANRs that were not released, oldest first.
     pub fn anrs(&self) -> &[Anr]
         ensures { result.now ≡ self.now.anrs.left }
     {

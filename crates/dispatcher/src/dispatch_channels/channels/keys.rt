@@ -10,7 +10,7 @@ use super::Channels;
 use input_types::{KeyMsg, Moment};
 
 impl Channels {
-    /// A live channel is sent a key message, as `send` would tell it, without a body. Takes no memory.
+    /// Sends a live channel a key message, as `send` would, without building a body. Takes no memory.
     pub fn send_key(&mut self, channel: u32, message: &KeyMsg, clock: Moment)
         requires live { mask_has self.old.live channel ≡ true }
         requires room { 1 ≤ (channel_of self.old channel).spare }

@@ -14,9 +14,9 @@ use bits32::Bits32;
 use input_types::{DeviceId, Moment, Pixel};
 
 impl Channels {
-    /// Sends a live channel a Move of pointers of a device: those of a motion that have these ids, with these flags,
-    /// as `send` would tell it. The places go from the motion into what the window was sent, and from there straight
-    /// into the message. Takes no memory.
+    /// Sends a live channel a Move of the pointers of a motion that have these ids, with these flags, as `send` would.
+    /// The positions go from the motion into what the window was sent, and from there straight into the message. Takes
+    /// no memory.
     pub fn send_moves(
         &mut self,
         channel: u32,

@@ -18,7 +18,7 @@ impl Channels {
         mask_less(self.live, mask_less(self.able, self.tracker.pending()))
     }
 
-    /// A moment before which no channel is due to be named. Nothing is looked for.
+    /// A time before which no channel is due to be reported. It does not search.
     pub fn due_from(&self) -> u64
         ensures { NoneBelow (due_moment self.now) result }
     {

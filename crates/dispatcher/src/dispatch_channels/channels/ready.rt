@@ -6,8 +6,8 @@ use super::Channels;
 use std::alloc::AllocError;
 
 impl Channels {
-    /// Makes room, so that the channel can be sent the next `n` bodies, and counts all the room that there is then.
-    /// Where it has enough already, nothing is done. Without memory nothing changes but the room that it has.
+    /// Makes room, so that the channel can be sent the next `n` bodies, and counts all the room that there is then. If
+    /// it has enough already, nothing is done. If memory runs out, nothing changes but the room of the channel.
     #[inline(always)]
     pub fn make_ready(&mut self, channel: u32, n: u32) -> Result<(), AllocError>
         requires { IsOpened self.old channel }
@@ -27,7 +27,7 @@ impl Channels {
         self.count_room(channel, n)
     }
 
-    /// The same where it may not have enough. It is not inlined: mostly a channel has.
+    /// Does the same for a channel that may not have enough. It is not inlined, since usually a channel has enough.
     #[inline(never)]
     fn count_room(&mut self, channel: u32, n: u32) -> Result<(), AllocError>
         requires { IsOpened self.old channel }

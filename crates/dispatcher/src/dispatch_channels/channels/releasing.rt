@@ -1,4 +1,4 @@
-//! What is kept of the messages and the namings no longer.
+//! Releases messages and ANRs.
 ghost use Rattle.std.specs.Prelude.{◌≡◌};
 ghost use Rattle.dispatcher.specs.InputChannel.State.{release_of, each_released, all_released};
 ghost use Rattle.dispatcher.specs.DispatchTables.Delivery.{noted_gone};
@@ -7,7 +7,7 @@ ghost use Rattle.dispatcher.specs.DispatchChannels.Table.{IsOpened, channel_of, 
 use super::Channels;
 
 impl Channels {
-    /// Drops the messages of a channel that were received. Their numbers stay in use.
+    /// Releases the messages of a channel that were received. Their numbers stay in use.
     pub fn release(&mut self, channel: u32)
         requires { IsOpened self.old channel }
         ensures { self.new ≡ with_channel channel (release_of (channel_of self.old channel)) self.old }
@@ -15,8 +15,7 @@ impl Channels {
         self.channels[channel as usize - 1].release();
     }
 
-    /// Drops all messages of a channel, those too that were not received. Their numbers stay in use, and the room for
-    /// more stays.
+    /// Releases all messages of a channel, received or not. Their numbers stay in use, and the room for more stays.
     pub fn let_each_go(&mut self, channel: u32)
         requires { IsOpened self.old channel }
         ensures { self.new ≡ with_channel channel (each_released (channel_of self.old channel)) self.old }
@@ -24,7 +23,7 @@ impl Channels {
         self.channels[channel as usize - 1].let_each_go();
     }
 
-    /// Drops all messages of a channel, and gives back their memory. Their numbers stay in use.
+    /// Releases all messages of a channel, and gives back their memory. Their numbers stay in use.
     pub fn let_all_go(&mut self, channel: u32)
         requires { IsOpened self.old channel }
         ensures { self.new ≡ with_channel channel (all_released (channel_of self.old channel)) self.old }
@@ -32,7 +31,7 @@ impl Channels {
         self.channels[channel as usize - 1].let_all_go();
     }
 
-    /// Drops the namings so far, and gives back their memory.
+    /// Releases the ANRs so far, and gives back their memory.
     pub fn release_anrs(&mut self)
         ensures { self.new ≡ record self.old { anrs = noted_gone self.old.anrs } }
     {
