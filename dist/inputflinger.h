@@ -71,9 +71,9 @@
  * 0, or the answer is INPUTFLINGER_OUT_OF_RANGE; the library writes them as 0. A size below that of the first release is
  * INPUTFLINGER_OUT_OF_RANGE. No other struct ever changes.
  *
- * Times are microseconds of a clock of your own, at most 10^18. Each call that takes the time now accepts an earlier one
- * than the call before it: the latest time that was handed in counts. The time of a call that is refused and changes
- * nothing does not count.
+ * Times are microseconds of a clock of your own, at most 10^18. Each call that takes the current time also accepts a time
+ * before that of an earlier call: the latest time that was handed in counts. The time of a call that is refused and
+ * changes nothing does not count.
  */
 #ifndef INPUTFLINGER_H
 #define INPUTFLINGER_H
@@ -86,7 +86,7 @@
 extern "C" {
 #endif
 
-/* The release of this header. inputflinger_version tells that of the library which a program runs with. */
+/* The release of this header. inputflinger_version returns that of the library that a program runs with. */
 #define INPUTFLINGER_VERSION_MAJOR 1
 #define INPUTFLINGER_VERSION_MINOR 0
 #define INPUTFLINGER_VERSION_MICRO 0
@@ -142,7 +142,7 @@ enum inputflinger_status {
 	INPUTFLINGER_NO_THREADS = 21
 };
 
-/* What a status means, in one English line without a full stop; "unknown status" for a number that is none. Never NULL. */
+/* What a status means, in one English line without a full stop; "unknown status" for any other number. Never NULL. */
 const char *inputflinger_status_text(int status);
 
 struct inputflinger_client;
@@ -412,6 +412,17 @@ struct inputflinger_rect {
 #define INPUTFLINGER_SLIPPERY 8u		/* a finger that moves out of it may continue in the window it enters */
 #define INPUTFLINGER_SPY 16u			/* it sees the touches of what is behind it, and may pilfer them */
 #define INPUTFLINGER_PREVENT_SPLITTING 32u	/* the fingers of a gesture are not split between it and others */
+#define INPUTFLINGER_TRUSTED_OVERLAY 64u	/* it is the system's own, and neither blocks nor marks a touch */
+
+/* Whether a touch may go through a window to a window of another owner behind it. */
+enum inputflinger_occlusion {
+	/* It may not: the window behind is given no pointer there. */
+	INPUTFLINGER_BLOCK = 0,
+	/* It may if the windows of the owner with this occlusion together hide at most 80 per cent there. */
+	INPUTFLINGER_OPACITY = 1,
+	/* It may. */
+	INPUTFLINGER_ALLOW = 2
+};
 
 /*
  * A window of a client. A client has one window at most.
@@ -421,6 +432,14 @@ struct inputflinger_rect {
  *     flags      the bits above
  *     rects      the number of rectangles in which it can be touched, at most 64; they are passed beside the windows
  *     display    0 to 3; all its pixels are those of this display
+ *     unused     ignored; up to here the struct is that of the first release
+ *     owner      whose it is, as a number of your choice: windows of one owner trust each other
+ *     opacity    how much it hides of what is behind it, 0 to 100 per cent; 0 is invisible
+ *     occlusion  whether a touch may go through it to a window of another owner: an inputflinger_occlusion
+ *
+ * Where its frame is, a window lies over all windows behind it. A window of another owner behind it is either blocked
+ * there, and then given no pointer, or has its motions marked as obscured. A window of opacity 0 that is not touchable does
+ * neither to those behind it. If all windows have one owner, as zeroed structs have, opacity and occlusion mean nothing.
  */
 struct inputflinger_window {
 	struct inputflinger_client client;
@@ -428,6 +447,10 @@ struct inputflinger_window {
 	uint32_t flags;
 	uint32_t rects;
 	uint8_t display;
+	uint8_t unused[7];
+	uint32_t owner;
+	uint8_t opacity;
+	uint8_t occlusion;
 };
 
 /* The range of a panel's raw positions on one axis, both ends included, as EVIOCGABS gives it. */
@@ -555,23 +578,34 @@ int inputflinger_live_add_keys(struct inputflinger_live *live, uint8_t display, 
 int inputflinger_live_remove_device(struct inputflinger_live *live, uint64_t now_us, uint8_t device);
 
 /*
- * Hands in an event of a device, with the type, code and value of the kernel's struct input_event. Its result is
- * dispatched at once: that of a panel's packet at its SYN_REPORT, that of a key immediately.
+ * Hands in an event of a device, with the type, code and value of the kernel's struct input_event. What it gives is
+ * dispatched at once. A panel's packet gives its motions at the SYN_REPORT, and a key is given by its own event.
  *
  *     INPUTFLINGER_OK            it was taken and dispatched
  *     INPUTFLINGER_OUT_OF_RANGE  now_us or device
  *     INPUTFLINGER_NO_DEVICE     the device is not plugged in
- *     INPUTFLINGER_INCONSISTENT  its result does not fit what inputflinger_live_args handed in of the device before; that
- *                                was not taken, and the rest was dispatched; the clock advanced
+ *     INPUTFLINGER_INCONSISTENT  a part of what it gives does not fit what inputflinger_live_args handed in for the device
+ *                                before: that part was not taken, the rest was dispatched, and the clock advanced
  *     INPUTFLINGER_NO_MEMORY     it was not taken: nothing changed
  *     INPUTFLINGER_WAITS         out of memory after it was taken: it is dispatched, in its order, by the next call that
- *                                has the memory and hands something in or advances
+ *                                has the memory and hands something in or advances; not if room was reserved for it
  */
 int inputflinger_live_event(struct inputflinger_live *live, uint64_t now_us, uint8_t device, uint16_t type,
 			    uint16_t code, int32_t value);
 
 /*
- * Hands in finished input of a device: a motion or a key as a message says it, in display pixels, or a reset
+ * Makes room for this many next events, whichever devices they belong to. None of them answers INPUTFLINGER_WAITS, if
+ * nothing waits now and only events come between. An event may give 33 motions, and each motion may send a client 131
+ * messages. The call makes room for these in every channel that was used: about 10 MB an event with 10 channels, which
+ * the next reserve uses again. An event may still answer INPUTFLINGER_NO_MEMORY: then it was not taken.
+ *
+ *     INPUTFLINGER_OK         there is room
+ *     INPUTFLINGER_NO_MEMORY  nothing changed
+ */
+int inputflinger_live_reserve(struct inputflinger_live *live, uint16_t events);
+
+/*
+ * Hands in ready-made input of a device: the motion or key of a message, in display pixels, or a reset
  * (INPUTFLINGER_RESET, of which only device is read). seq, moment_us and a key's flags and repeat are ignored. The
  * statuses are those of inputflinger_live_event; INPUTFLINGER_OUT_OF_RANGE is also answered for a number of the message,
  * and for a focus message, which no device can hand in.
@@ -632,6 +666,9 @@ int inputflinger_live_client_at(const struct inputflinger_live *live, uint32_t c
  *     windows [b's window, that of a closed client]   INPUTFLINGER_NOT_OPEN, named 1: nothing changed
  *     focus(0, b)                                     INPUTFLINGER_OK: keys go to b
  *     focus(0, NULL)                                  INPUTFLINGER_OK: keys go nowhere
+ *     windows [a's window, of owner 1, b's, of owner 2]
+ *                                                     INPUTFLINGER_OK: a's window blocks b's where its frame is
+ *     a finger goes down there; a's is NOT_TOUCHABLE  nobody is given it
  */
 
 /*
@@ -640,8 +677,9 @@ int inputflinger_live_client_at(const struct inputflinger_live *live, uint32_t c
  * rects_len is 0, and named always.
  *
  *     INPUTFLINGER_OK            the windows are shown
- *     INPUTFLINGER_OUT_OF_RANGE  now_us; a display; there are too few rectangles; a window has more than 64, or one whose
- *                                left edge is right of its right edge, or whose top edge is below its bottom edge
+ *     INPUTFLINGER_OUT_OF_RANGE  now_us; a display, an opacity or an occlusion; there are too few rectangles; a window has
+ *                                more than 64, or one whose left edge is right of its right edge, or whose top edge is
+ *                                below its bottom edge
  *     INPUTFLINGER_NOT_OPEN      the client of a window is not open; named is the index of the first such window, from 0
  *     INPUTFLINGER_TOO_MANY      more than 64 windows
  *     INPUTFLINGER_TWICE         a client has two windows; named is its channel
@@ -721,6 +759,25 @@ int inputflinger_live_finish(struct inputflinger_live *live, uint64_t now_us, co
 			     uint64_t seq);
 
 /*
+ * Reports that a client is done with every message up to this seq, which it received. The messages that it did not finish
+ * yet are finished one by one, as by inputflinger_live_finish; seq 0 stands for none. A compositor whose clients answer a
+ * ping keeps the seq of the last message that it sent before the ping, and hands it in at the pong.
+ *
+ *     next, next, next                                INPUTFLINGER_OK each: seq 1, 2 and 3
+ *     finish 2                                        INPUTFLINGER_OK
+ *     finish_through 3                                INPUTFLINGER_OK: 1 and 3 are finished now too
+ *     finish_through 4                                INPUTFLINGER_UNKNOWN_SEQ: the client has not received 4
+ *
+ *     INPUTFLINGER_OK            they are finished
+ *     INPUTFLINGER_OUT_OF_RANGE  now_us
+ *     INPUTFLINGER_NOT_OPEN      the client is not open
+ *     INPUTFLINGER_UNKNOWN_SEQ   the client did not receive the message of this seq; nothing changed, not even the clock
+ *     INPUTFLINGER_NO_MEMORY     only if the calls can no longer be counted in 64 bits; the first of them may be finished
+ */
+int inputflinger_live_finish_through(struct inputflinger_live *live, uint64_t now_us,
+				     const struct inputflinger_client *client, uint64_t seq);
+
+/*
  * Time.
  *
  *     event 1: a key goes down at 1,000,000           INPUTFLINGER_OK; the client receives it and does not finish it
@@ -745,7 +802,8 @@ int inputflinger_live_due(const struct inputflinger_live *live, uint64_t *moment
  *
  *     INPUTFLINGER_OK            mask is written
  *     INPUTFLINGER_OUT_OF_RANGE  now_us
- *     INPUTFLINGER_NO_MEMORY     a part may be done; the next call reports the channels that it found unresponsive
+ *     INPUTFLINGER_NO_MEMORY     a part may be done; the next call also reports the channels that this one found
+ *                                unresponsive
  */
 int inputflinger_live_advance(struct inputflinger_live *live, uint64_t now_us, uint64_t *mask);
 
@@ -810,13 +868,14 @@ struct inputflinger_ran {
  *     replay --help                         INPUTFLINGER_OK           0: the help of replay is in out
  *     a text longer than out                INPUTFLINGER_NO_ROOM      0: out_len is how much room it needs
  *
- * A word that is not UTF-8 counts as the empty word, and an empty text has no words: ran.status is 2. The thread should have 64 KiB
- * of stack left for a run, more than any was seen to take: see docs/LIBRARY.md.
+ * A word that is not UTF-8 counts as the empty word, and an empty text has no words: ran.status is 2. Leave 64 KiB of the
+ * thread's stack for a run; no run was seen to take more (docs/LIBRARY.md).
  *
  * The text goes to out and the line to err, each as far as there is room, without a NUL behind it; the rest of the buffer
  * stays as it was. out may be NULL if out_room is 0, and so may err: a run without room reports how much is needed. While
- * it runs, the program allocates memory of its own for what it reads and for everything that it prints. If it runs out,
- * ran.status is 6, or 5 if there is none for what is printed. If there is none for the line either, err_len is 0.
+ * it runs, the program allocates memory of its own for what it reads and for everything that it prints. If it runs out of
+ * memory, ran.status is 6, or 5 if there is none for the text that it prints. If there is none for the line either, err_len
+ * is 0.
  *
  *     INPUTFLINGER_OK            the program ended, and out and err have all that it printed
  *     INPUTFLINGER_NO_ROOM       it ended, and a text is longer than its room: ran is written, and the front of the text
