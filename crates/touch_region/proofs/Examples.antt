@@ -1,10 +1,11 @@
 -- Worked examples: the definitions on concrete rectangles.
-use Rattle.std.specs.Prelude.{◌≡◌, true, false, pos, negsuc, List, ℕ, [], ◌∷◌, replicate, Ok, Err, refl}
+use Rattle.std.specs.Prelude.{◌≡◌, true, false, pos, negsuc, List, ℕ, [], ◌∷◌, replicate, Ok, Err, Some, refl}
 use Rattle.touch_region.specs.declared.rectangle.Rect.{Rect}
 use Rattle.touch_region.specs.declared.region.RegionError.TheVariants.{TooMany, BadRect}
 use Rattle.touch_region.specs.declared.span.Span.{Span}
 use Rattle.touch_region.specs.RectList.{region_holds}
-use Rattle.touch_region.specs.Bands.{Row, bands_hold}
+use Rattle.touch_region.specs.Bands.{Row, bands_hold, with_band}
+use Rattle.touch_region.specs.Edges.{lower_edges, nearer}
 use Rattle.touch_region.specs.Region.{region_of}
 
 -- from (10, 10) to (20, 20)
@@ -102,3 +103,16 @@ beside_the_third_band = refl
 
 pub below_all_bands : bands_hold bands (pos 20) (pos 20) ≡ false
 below_all_bands = refl
+
+-- below row 5 lie the bottom edges 10 and 20; the top edge 5 does not
+pub two_edges_are_lower : lower_edges (pos 5) (upper ∷ lower ∷ []) ≡ 2
+two_edges_are_lower = refl
+
+pub nearer_edge_is_kept : nearer (Some (pos 10)) (pos 20) ≡ pos 10
+nearer_edge_is_kept = refl
+
+pub no_span_no_band : with_band (pos 20) (pos 30) [] bands ≡ bands
+no_span_no_band = refl
+
+pub a_span_makes_a_band : with_band (pos 0) (pos 5) (span 0 10 ∷ []) [] ≡ record { top = pos 0; bottom = pos 5; spans = span 0 10 ∷ [] } ∷ []
+a_span_makes_a_band = refl

@@ -1,5 +1,8 @@
 pub mod Rising
-pub mod Edges
 pub mod Points
 pub mod Adding
+pub mod Next
+pub mod Joining
+pub mod Opening
+pub mod Sweeping
 pub mod Examples

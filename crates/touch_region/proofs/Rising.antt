@@ -1,16 +1,23 @@
 -- Spans and bands one behind the other: how a number is found among them, and what one more adds.
-use Rattle.std.proofs.Common.{◌≡◌, ℕ, ◌<◌, ◌≤◌, List, [], ◌∷◌, ◌++◌, length, get_or, Bool, true, false, ◌||◌, refl, sym, ◌∙◌, arith, inl, inr}
+use Rattle.std.proofs.Common.{◌≡◌, ℕ, suc, ◌<◌, ◌≤◌, List, [], ◌∷◌, ◌++◌, ◌-◌, length, get_or, take, drop, Bool, true, false, ◌||◌, refl, sym, ◌∙◌, ap, arith, inl, inr}
 use Rattle.std.specs.Prelude.{ℤ, ◌≤ℤ◌, ◌<ℤ◌, int_le, int_lt}
 use Rattle.std.specs.List.{list_any, All}
-use Rattle.std.specs.List.Sorted.{IsPartitionPoint, IsPartitionedBy}
+use Rattle.std.specs.List.Sorted.{IsPartitionPoint, IsPartitionedBy, IsSortedByKey}
+use Rattle.std.specs.Cmp.{int_cmp_total}
+use Rattle.std.specs.Fn.{Called, ComputesKey}
+use Rattle.std.specs.Ordering.{int_cmp, is_lt}
+use Rattle.std.proofs.lemmas.Fn.{always_returns_same}
+use Rattle.std.proofs.lemmas.List.Sorted.{sorted_far, ranks_by}
+use denote.Param.Members.{Mut}
+use denote.Ref.{Bor}
 use Rattle.std.proofs.lemmas.Bool.{cases_order, and_parts}
 use Rattle.std.proofs.lemmas.Int.{ints, by_lt_z}
-use Rattle.std.proofs.lemmas.List.{get_or_default}
+use Rattle.std.proofs.lemmas.List.{get_or_default, take_all}
 use Rattle.std.proofs.lemmas.List.Folds.{list_any-append, list_any_none, Any-from_list_any, list_any_at}
 use Rattle.std.proofs.lemmas.List.Elements.{All-push, All-weaker}
 use Rattle.std.proofs.lemmas.List.Quantifiers.{all_pairs_push}
 use Rattle.touch_region.specs.Between.{is_between}
-use Rattle.touch_region.specs.Spans.{AreApart}
+use Rattle.touch_region.specs.Spans.{AreApart, InOrder}
 
 pub same_test : (a b : Bool) → (a ≡ true → b ≡ true) → (b ≡ true → a ≡ true) → a ≡ b
 same_test true b f g = sym (f refl)
@@ -33,14 +40,48 @@ true_le a b h = grind (arith, ints)
 pub between_from : (a x b : ℤ) → is_between a x b ≡ true → a ≤ℤ x
 between_from a x b h = le_true a x (and_parts _ _ h).0
 
-lt_true : (a b : ℤ) → int_lt a b ≡ true → a <ℤ b
+pub lt_true : (a b : ℤ) → int_lt a b ≡ true → a <ℤ b
 lt_true a b h = grind (arith, ints)
+
+pub true_lt : (a b : ℤ) → a <ℤ b → int_lt a b ≡ true
+true_lt a b h = grind (arith, ints)
+
+pub lt_false : (a b : ℤ) → int_lt a b ≡ false → b ≤ℤ a
+lt_false a b h = grind (arith, ints)
 
 pub between_until : (a x b : ℤ) → is_between a x b ≡ true → x <ℤ b
 between_until a x b h = lt_true x b (and_parts _ _ h).1
 
 pub is_between_since : (a x b : ℤ) → a ≤ℤ x → x <ℤ b → is_between a x b ≡ true
 is_between_since a x b h k = grind (arith, ints)
+
+pub none_apart : {X : Type 0} (from until : X → ℤ) → AreApart from until []
+none_apart from until = record { wide = λ k d within. absurd (omega arith); rising = λ i j d below within. absurd (omega arith) }
+
+-- the first of a list that is not empty, and the others
+pub first_and_rest : {X : Type 0} (xs : List X) (d : X) → 1 ≤ length xs → xs ≡ get_or xs 0 d ∷ take (length xs - 1) (drop 1 xs)
+first_and_rest [] d some = absurd (omega arith)
+first_and_rest (x ∷ xs) d some = ap (λ ys. x ∷ ys) (sym (take_all (length (x ∷ xs) - 1) xs (omega arith)))
+
+not_below : (a b : ℤ) → is_lt (int_cmp a b) ≡ false → b ≤ℤ a
+not_below a b h = grind (arith, ints)
+
+rising_from_sort : {X : Type 0} (from : X → ℤ) (xs : List X) → IsSortedByKey from int_cmp xs → InOrder from xs
+rising_from_sort from xs sorted i j d below within =
+    not_below (from (get_or xs j d)) (from (get_or xs i d))
+    (sorted_far (λ x y. is_lt (int_cmp (from x) (from y))) (ranks_by int_cmp_total from) xs sorted i j d (omega arith) within)
+
+-- what a sort by a signed key ensures
+pub in_order : {X : Type 0} (from : X → ℤ) {F : Type 0} {g : Mut F (Bor X × Unit {0}) ℤ} {f : F} (xs : List X)
+    → ((key : X → ℤ) → ComputesKey g key f → IsSortedByKey key int_cmp xs)
+    → ((a : Bor X × Unit {0}) (r : ℤ) (f' : F) → Called g f a r f' → (r ≡ from a.0.now) × (f' ≡ f)) → InOrder from xs
+in_order from {g = g} {f = f} xs up h = rising_from_sort from xs (up from (always_returns_same g (λ a r. r ≡ from a.0.now) f h))
+
+pub order_head : {X : Type 0} (from : X → ℤ) (x : X) (xs : List X) → InOrder from (x ∷ xs) → All (λ y. from x ≤ℤ from y) xs
+order_head from x xs order k d within = order 0 (suc k) d (omega arith) (omega arith)
+
+pub order_tail : {X : Type 0} (from : X → ℤ) (x : X) (xs : List X) → InOrder from (x ∷ xs) → InOrder from xs
+order_tail from x xs order i j d below within = order (suc i) (suc j) d (omega arith) (omega arith)
 
 -- those that end at z or before it stand in front of all others
 pub ended_first : {X : Type 0} (from until : X → ℤ) (z : ℤ) (xs : List X) → AreApart from until xs → IsPartitionedBy (λ x. int_le (until x) z) xs

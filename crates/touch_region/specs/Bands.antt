@@ -1,5 +1,5 @@
 -- Bands: the points of a list of rectangles, row by row.
-use Rattle.std.specs.Prelude.{Bool, ◌&&◌, ◌≡◌, ◌<◌, ◌≤◌, ℤ, ◌≤ℤ◌, ◌<ℤ◌, List, length}
+use Rattle.std.specs.Prelude.{Bool, ◌&&◌, ◌≡◌, ◌<◌, ◌≤◌, ℤ, ◌≤ℤ◌, ◌<ℤ◌, List, [], ◌∷◌, ◌++◌, length}
 use Rattle.std.specs.List.{list_any, All}
 use Rattle.touch_region.specs.declared.rectangle.Rect.{Rect}
 use Rattle.touch_region.specs.declared.span.Span.{Span}
@@ -17,13 +17,14 @@ pub record Row : Type 0 where
 abbrev pub bands_hold : List Row → ℤ → ℤ → Bool
 bands_hold rows x y = list_any (λ r. is_between r.top y r.bottom && spans_hold r.spans x) rows
 
--- the columns and the rows of a rectangle
+-- the columns of a rectangle
 abbrev pub columns_of : Rect → Span
 columns_of rect = record { from = rect.left; until = rect.right }
 
--- the rows of a rectangle
-abbrev pub rows_of : Rect → Span
-rows_of rect = record { from = rect.top; until = rect.bottom }
+-- the bands with one more below them, which is left out if it has no spans
+abbrev pub with_band : ℤ → ℤ → List Span → List Row → List Row
+with_band top bottom [] rows = rows
+with_band top bottom (s ∷ ss) rows = rows ++ record { top = top; bottom = bottom; spans = s ∷ ss } ∷ []
 
 -- the bands of a list of rectangles: at most 127, one below the other, with the points of the rectangles and no others
 pub record AreBands (rects : List Rect) (rows : List Row) : Type 0 where
@@ -40,9 +41,3 @@ pub record BandsAbove (limit : ℤ) (rects : List Rect) (rows : List Row) : Type
   pub apart : AreApart (λ r. r.top) (λ r. r.bottom) rows
   pub ended : All (λ r. r.bottom ≤ℤ limit) rows
   pub same : (x y : ℤ) → y <ℤ limit → bands_hold rows x y ≡ region_holds rects x y
-
--- the spans left of x = limit contain the points of the rectangles there in row y, and no span reaches right of it
-pub record SpansLeft (limit : ℤ) (rects : List Rect) (y : ℤ) (spans : List Span) : Type 0 where
-  pub apart : AreApart (λ s. s.from) (λ s. s.until) spans
-  pub ended : All (λ s. s.until ≤ℤ limit) spans
-  pub same : (x : ℤ) → x <ℤ limit → spans_hold spans x ≡ region_holds rects x y

@@ -4,3 +4,4 @@ pub mod RectList
 pub mod Region
 pub mod Spans
 pub mod Bands
+pub mod Edges

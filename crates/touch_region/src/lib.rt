@@ -10,6 +10,7 @@ mod band;
 mod rectangle;
 mod region;
 mod span;
+mod sweep;
 
 pub use rectangle::Rect;
 pub use region::{MAX_RECTS, Region, RegionError};

@@ -21,7 +21,7 @@ pub struct Rect {
 
 impl Rect {
     ghost use Rattle.touch_region.specs.Rectangle.{rect_holds, is_ordered};
-    ghost use Rattle.touch_region.specs.Bands.{columns_of, rows_of};
+    ghost use Rattle.touch_region.specs.Bands.{columns_of};
 
     /// Whether the point lies in the rectangle.
     pub fn contains(&self, x: i32, y: i32) -> bool
@@ -45,16 +45,6 @@ impl Rect {
         Span {
             from: self.left,
             until: self.right,
-        }
-    }
-
-    /// Its rows of pixels.
-    pub(crate) fn rows(&self) -> Span
-        ensures { result ≡ rows_of self.now }
-    {
-        Span {
-            from: self.top,
-            until: self.bottom,
         }
     }
 }

@@ -3,8 +3,9 @@
 ghost use Rattle.std.specs.Prelude.{◌≡◌, ◌≤◌, length, IfOk};
 ghost use Rattle.touch_region.specs.declared.region.RegionError.TheVariants.{Memory};
 
-use crate::band::{Band, bands_hold, bands_of, copy_bands};
+use crate::band::{Band, bands_hold, copy_bands};
 use crate::rectangle::Rect;
+use crate::sweep::bands_of;
 use std::alloc::AllocError;
 use std::marker::Model;
 

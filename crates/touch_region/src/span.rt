@@ -1,8 +1,9 @@
-//! Stretches of pixels along one axis, and their edges.
+//! Stretches of pixels along one axis.
 
-ghost use Rattle.std.specs.Prelude.{◌≡◌, ◌*◌, length, IfOk};
+ghost use Rattle.std.specs.Prelude.{◌≡◌, ℤ, ◌<ℤ◌, IfOk};
+ghost use Rattle.std.specs.List.{All};
 ghost use Rattle.touch_region.specs.Between.{is_between};
-ghost use Rattle.touch_region.specs.Spans.{spans_hold, AreApart, AreEdges};
+ghost use Rattle.touch_region.specs.Spans.{spans_hold, AreApart, InOrder};
 
 use std::alloc::{AllocError, Global};
 
@@ -41,16 +42,28 @@ pub(crate) fn spans_hold(spans: &[Span], x: i32) -> bool
     }
 }
 
-/// The edges of these spans in rising order, duplicates included.
-pub(crate) fn edges_of(alloc: Global, spans: &[Span]) -> Result<Vec<i32>, AllocError>
-    ensures edges { IfOk result (λ edges. AreEdges edges.items spans.now) }
-    ensures two_each { IfOk result (λ edges. length edges.items ≡ 2 * length spans.now) }
+/// The same pixels in spans that stand apart. Spans that overlap or touch become one.
+pub(crate) fn joined(alloc: Global, spans: &[Span]) -> Result<Vec<Span>, AllocError>
+    requires wide { All (λ s. s.from <ℤ s.until) spans.now }
+    requires order { InOrder (λ s. s.from) spans.now }
+    ensures apart { IfOk result (λ joined. AreApart (λ s. s.from) (λ s. s.until) joined.items) }
+    ensures same { IfOk result (λ joined. (x : ℤ) → spans_hold joined.items x ≡ spans_hold spans.now x) }
 {
-    let mut edges = Vec::new(alloc);
-    for span in spans {
-        edges.push(span.from)?;
-        edges.push(span.until)?;
+    let mut joined = Vec::new(alloc);
+    let [first, later @ ..] = spans else {
+        return Ok(joined);
+    };
+    let mut last = *first;
+    let mut rest = later;
+    while let [span, later @ ..] = rest {
+        if last.until < span.from {
+            joined.push(last)?;
+            last = *span;
+        } else if last.until < span.until {
+            last.until = span.until;
+        }
+        rest = later;
     }
-    edges.sort_unstable();
-    Ok(edges)
+    joined.push(last)?;
+    Ok(joined)
 }
