@@ -1,11 +1,12 @@
 -- Every window that holds a pointer is able, and the snapshot shows it on the display of the device.
-use Rattle.std.proofs.Common.{◌≡◌, ℕ, ◌==◌, ◌&&◌, ◌⊎◌, Bool, true, false, not, cond, List, [], ◌∷◌, filter, Option, Some, None, refl, sym, ap, ◌∙◌, subst, inl, inr}
+use Rattle.std.proofs.Common.{◌≡◌, ℕ, ◌==◌, ◌&&◌, ◌||◌, ◌⊎◌, Bool, true, false, not, cond, List, [], ◌∷◌, filter, Option, Some, None, refl, sym, ap, ◌∙◌, subst, inl, inr}
 use Rattle.std.proofs.lemmas.Bool.{and_parts, and_from, or_cases, or_parts, or_left, or_right, both_ways, true≢false, not-true, not-false, eqb-true, eq-eqb}
 use Rattle.input_types.specs.Displays.{device_display}
 use Rattle.input_types.specs.declared.message.Args.{Args}
 use Rattle.input_types.specs.declared.message.Args.TheVariants.{Motion as MotionArgs, Key, Reset}
 use Rattle.window_snapshot.specs.declared.window.Window.{Window}
 use Rattle.window_snapshot.specs.Named.{is_named, is_shown_on}
+use Rattle.window_snapshot.specs.Walls.{wall_on}
 use Rattle.dispatch_calls.specs.declared.call.Call.TheVariants.{Open, Windows, FocusOn, Notify, Pump, Tick, Receive, Finish, Pilfer, Remove}
 use Rattle.dispatch_calls.specs.declared.reply.Reply.{Reply}
 use Rattle.dispatch_calls.specs.declared.reply.Reply.TheVariants.{Opened, Named, Done}
@@ -102,12 +103,14 @@ pilfer_gives : (ws : List Window) (s : Scene) (now c e w d i : ℕ) (answer : Re
 pilfer_gives ws s now c e w d i Done = refl
 pilfer_gives ws s now c e w d i _ = refl
 
+-- a motion gives to able windows, so what it reaches counts where it is able
 pump_gives : (ds : List ℕ) (ws : List Window) (s : Scene) (now w d i : ℕ) (answer : Reply) (o : Option Args)
-    → ((e : ℕ) → ForDevice (λ v. is_shown_on ws (device_display ds e) v) s e)
+    → ((e : ℕ) → ForDevice (λ v. not (s.able v) || is_shown_on ws (device_display ds e) v) s e)
     → has (given s (step_of ws (Pump now) answer o)) w d i ≡ true → (s.able w ≡ true) × (is_shown_on ws (device_display ds d) w ≡ true)
 pump_gives ds ws s now w d i answer (Some (MotionArgs m)) f h =
-    let g = motion_given (λ v. is_shown_on ws (device_display ds m.device) v) s m m.action (changed m) w d i (f m.device) h in
-    (g.0, subst (λ e. is_shown_on ws (device_display ds e) w ≡ true) (eqb-true m.device d g.2) g.1)
+    let g = motion_given (λ v. not (s.able v) || is_shown_on ws (device_display ds m.device) v) s m m.action (changed m) w d i (f m.device) h in
+    let shown = sym (ap (λ b. not b || is_shown_on ws (device_display ds m.device) w) g.0) ∙ g.1 in
+    (g.0, subst (λ e. is_shown_on ws (device_display ds e) w ≡ true) (eqb-true m.device d g.2) shown)
 pump_gives ds ws s now w d i answer (Some (Key k)) f h = absurd (true≢false (sym h))
 pump_gives ds ws s now w d i answer (Some (Reset r)) f h = absurd (true≢false (sym h))
 pump_gives ds ws s now w d i answer None f h = absurd (true≢false (sym h))
@@ -117,6 +120,18 @@ only_kept : (k : Mark) (ms : List Mark) (w d i : ℕ) → has k.given w d i ≡ 
     → (has (held ms) w d i ≡ true) × (takes k.taken w d i ≡ false)
 only_kept k ms w d i n h = elim (held_parts k ms w d i h) [ inl g ↦ absurd (both_ways (has k.given w d i) n g) | inr b ↦ b ]
 
+-- a motion reaches windows that are shown on its display, and walls, which are not able
+reached_able : (es : List Effect) (ws : List Window) (y v : ℕ)
+    → (live (past_of es) v && is_shown_on ws y v || (not (live (past_of es) v) && v == wall_on y)) ≡ true → (not (able es v) || is_shown_on ws y v) ≡ true
+reached_able es ws y v k =
+    let lives = live (past_of es) v in
+    elim (or_cases (lives && is_shown_on ws y v) (not lives && v == wall_on y) k) [
+      | inl on ↦ or_right (not (able es v)) (is_shown_on ws y v) (and_parts lives (is_shown_on ws y v) on).1
+      | inr wall ↦
+          let dead : lives ≡ false = not-true lives (and_parts (not lives) (v == wall_on y) wall).0 in
+          or_left (not (able es v)) (is_shown_on ws y v) (ap (λ b. not (b && not (unresponsive es v))) dead)
+    ]
+
 holders : (ds : List ℕ) (h : History) (w d i : ℕ) → has (held (marks (effects ds h))) w d i ≡ true → Stands ds (effects ds h) w d
 holders ds [] w d i h = absurd (true≢false (sym h))
 holders ds ((Pump now, answer) ∷ h) w d i x =
@@ -125,10 +140,12 @@ holders ds ((Pump now, answer) ∷ h) w d i x =
     let o = args_of (Pump now) answer (inbound (past_of es)) in
     let y = effect_of ds (Pump now) answer o es in
     let done : Stands ds es w d → Stands ds (y ∷ es) w d = λ q. remains ds y es w d q.0 (was_live es w q.0) refl q.1 in
-    let for_device : (e : ℕ) → ForDevice (λ v. is_shown_on ws (device_display ds e) v) (scene ds es) e =
+    let for_device : (e : ℕ) → ForDevice (λ v. not (able es v) || is_shown_on ws (device_display ds e) v) (scene ds es) e =
     λ e. record {
-      held = λ v k. let r = some_id (held (marks es)) v e k in (holders ds h v e r.0 r.1).1;
-      reached = λ v k. (and_parts (live (past_of es) v) (is_shown_on ws (device_display ds e) v) k).1;
+      held = λ v k.
+          let r = some_id (held (marks es)) v e k in
+          or_right (not (able es v)) (is_shown_on ws (device_display ds e) v) (holders ds h v e r.0 r.1).1;
+      reached = λ v k. reached_able es ws (device_display ds e) v k;
     } in
     elim (held_parts (mark (scene ds es) (step_of ws (Pump now) answer o)) (marks es) w d i x)
     [ inl g ↦ done (pump_gives ds ws (scene ds es) now w d i answer o for_device g) | inr b ↦ done (holders ds h w d i b.0) ]

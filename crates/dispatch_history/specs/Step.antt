@@ -1,10 +1,11 @@
 -- What a step of a history is to the routing rules, and the state before it.
-use Rattle.std.specs.Prelude.{ℕ, Bool, ◌&&◌, nat_lt, List, map, Option, Some}
+use Rattle.std.specs.Prelude.{ℕ, Bool, not, ◌==◌, ◌&&◌, ◌||◌, nat_lt, List, map, Option, Some}
 use Rattle.input_types.specs.declared.message.Args.{Args}
 use Rattle.input_types.specs.declared.message.Args.TheVariants.{Motion as MotionArgs, Reset}
 use Rattle.input_types.specs.Displays.{device_display}
 use Rattle.window_snapshot.specs.declared.window.Window.{Window}
 use Rattle.window_snapshot.specs.Mask.{mask_has}
+use Rattle.window_snapshot.specs.Walls.{wall_on}
 use Rattle.dispatch_calls.specs.declared.call.Call.{Call}
 use Rattle.dispatch_calls.specs.declared.call.Call.TheVariants.{Windows, Pump, Tick, Pilfer, Remove}
 use Rattle.dispatch_calls.specs.declared.reply.Reply.{Reply}
@@ -12,7 +13,7 @@ use Rattle.dispatch_calls.specs.declared.reply.Reply.TheVariants.{Done, Named}
 use Rattle.routing_rules.specs.Pairs.{Pair, has_any}
 use Rattle.routing_rules.specs.Marks.{Mark, held, since, pilfering}
 use Rattle.routing_rules.specs.Scene.{Scene, Step, Moves, Resets, Pilfers, Shows, Mutes, Removes, NoOp, scene_of, stays}
-use Rattle.dispatch_history.specs.History.{snapshot, is_on}
+use Rattle.dispatch_history.specs.History.{live, snapshot, is_on}
 use Rattle.dispatch_history.specs.Effect.{Effect, past_of, last}
 use Rattle.dispatch_history.specs.Delivery.{able}
 
@@ -24,9 +25,11 @@ marks es = map (λ x. x.mark) es
 abbrev pub is_earlier : List Pair → List Mark → (v w device : ℕ) → Bool
 is_earlier qs ms v w d = has_any qs v d && has_any qs w d && nat_lt (since ms v d) (since ms w d)
 
--- a motion of a device can reach a channel that is on the device's display, by these displays of the devices
+-- a motion of a device can reach a channel that is on the device's display, by these displays of the devices, and the walls of
+-- that display, whose number is no live channel's
 abbrev pub reach : List ℕ → List Effect → ℕ → ℕ → Bool
-reach displays es d c = is_on (past_of es) (device_display displays d) c
+reach displays es d c =
+    let y = device_display displays d in is_on (past_of es) y c || (not (live (past_of es) c) && c == wall_on y)
 
 -- the scene after these steps, with their marks and the pairs that these leave
 abbrev pub scene_with : List ℕ → List Effect → List Mark → List Pair → Scene

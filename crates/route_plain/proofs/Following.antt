@@ -11,6 +11,7 @@ use Rattle.input_types.specs.declared.motion.MotionAction.{MotionAction}
 use Rattle.input_types.specs.declared.motion.MotionAction.TheVariants.{Down, Up, Move, Cancel, Outside, PointerDown, PointerUp}
 use Rattle.input_types.specs.declared.pointer.Pointer.{Pointer}
 use Rattle.window_snapshot.specs.Mask.{mask_has}
+use Rattle.window_snapshot.specs.Walls.{reaches}
 use Rattle.routing_rules.specs.Pairs.{Pair, has, has_any}
 use Rattle.routing_rules.specs.Taking.{Taking, takes, pilfers}
 use Rattle.routing_rules.specs.Marks.{Mark, kept, held, begins, since, pilfering}
@@ -20,7 +21,7 @@ use Rattle.routing_rules.specs.Given.{given, taken, taken_by, slips_out, mark, c
 use Rattle.route_plain.specs.declared.hold.Hold.{Hold}
 use Rattle.route_plain.specs.declared.hold.Pilferer.{Pilferer}
 use Rattle.route_plain.specs.Holds.{pairs_of, is_of, began, is_below, is_earlier, is_pilfering}
-use Rattle.route_plain.specs.State.{State, last_of}
+use Rattle.route_plain.specs.State.{State, last_of, reach_of}
 use Rattle.route_plain.specs.Route.{holds_left, holds_after, hold_from, with_pilferer, pilferers_after, last_after, next_turn}
 use Rattle.route_plain.specs.Laws.{BeganBy, Follows, StartLaw, TurnLaw, SceneLaw}
 use Rattle.route_plain.proofs.Gains.{pairs_of-gained}
@@ -215,7 +216,7 @@ scene_law ms st windows live able x =
     let pilfer : is_pilfering st.pilferers ≡ pilfering ms = fun_ext (λ w. fun_ext (λ d. x.pilfers w d)) in
     λ i. record {
       windows = windows;
-      reach = λ d. mask_has live;
+      reach = λ d. reaches (reach_of live);
       able = mask_has able;
       holds = has (x.holds i);
       any = has_any (x.holds i);

@@ -2,6 +2,7 @@
 use Rattle.std.specs.Prelude.{ℕ, ◌-◌, ◌^◌, ◌<◌, ◌≤◌, Bool, true, false, not, ◌&&◌, nat_lt, ◌≡◌, List, [], ◌∷◌, length, Some}
 use Rattle.window_snapshot.specs.declared.window.Window.{Window}
 use Rattle.window_snapshot.specs.Mask.{mask_has}
+use Rattle.window_snapshot.specs.Walls.{reaches}
 use Rattle.window_snapshot.specs.Named.{is_named}
 use Rattle.routing_rules.specs.Pairs.{has, has_any}
 use Rattle.routing_rules.specs.Taking.{Taking, Dropped}
@@ -11,7 +12,7 @@ use Rattle.routing_rules.specs.Given.{taken, mark}
 use Rattle.routing_rules.specs.Fits.{Fits, Rises, down_after}
 use Rattle.route_plain.specs.declared.hold.Hold.{Hold}
 use Rattle.route_plain.specs.Holds.{pairs_of, is_pilfering}
-use Rattle.route_plain.specs.State.{State, fresh, last_of, scene_before}
+use Rattle.route_plain.specs.State.{State, fresh, last_of, reach_of, scene_before}
 use Rattle.route_plain.specs.Route.{state_after}
 
 -- each hold has the number that a function gives of its window and device
@@ -45,7 +46,7 @@ SceneLaw =
     (ms : List Mark) (st : State) (windows : List Window) (live able : ℕ)
     → Follows ms st
     → scene_before st windows live able
-    ≡ scene_of windows (λ d. mask_has live) (mask_has able) (held ms)
+    ≡ scene_of windows (λ d. reaches (reach_of live)) (mask_has able) (held ms)
     (λ v w d. has_any (held ms) v d && has_any (held ms) w d && nat_lt (since ms v d) (since ms w d)) (pilfering ms) (last_of st.last)
 
 -- each window that holds something passes the test

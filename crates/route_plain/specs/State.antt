@@ -2,7 +2,9 @@
 use Rattle.std.specs.Prelude.{ℕ, ◌-◌, List, [], slice_index_or, replicate}
 use Rattle.input_types.specs.declared.pointer.Pointer.{Pointer}
 use Rattle.window_snapshot.specs.declared.window.Window.{Window}
+use Rattle.window_snapshot.specs.declared.reach.Reach.{Reach}
 use Rattle.window_snapshot.specs.Mask.{mask_has}
+use Rattle.window_snapshot.specs.Walls.{reaches}
 use Rattle.routing_rules.specs.Scene.{Scene, scene_of}
 use Rattle.route_plain.specs.declared.hold.Hold.{Hold}
 use Rattle.route_plain.specs.declared.hold.Pilferer.{Pilferer}
@@ -20,11 +22,14 @@ pub record State : Type 0 where
 abbrev pub last_of : List (List Pointer) → ℕ → List Pointer
 last_of last d = slice_index_or last (d - 1) []
 
--- the scene of these windows, of masks of live and able channels, and of what the router keeps: each device reaches
--- each live channel
+-- what each device reaches: the live channels, and the walls of display 0
+abbrev pub reach_of : (live : ℕ) → Reach
+reach_of live = record { channels = live; display = 0 }
+
+-- the scene of these windows, of masks of live and able channels, and of what the router keeps
 abbrev pub scene_with : List Window → (live able : ℕ) → List Hold → List Pilferer → List (List Pointer) → Scene
 scene_with windows live able holds pilferers last =
-    scene_of windows (λ d. mask_has live) (mask_has able) (pairs_of holds) (is_earlier holds) (is_pilfering pilferers) (last_of last)
+    scene_of windows (λ d. reaches (reach_of live)) (mask_has able) (pairs_of holds) (is_earlier holds) (is_pilfering pilferers) (last_of last)
 
 -- the moment before a turn, with these windows and masks of live and able channels
 abbrev pub scene_before : State → List Window → ℕ → ℕ → Scene

@@ -15,7 +15,7 @@ ghost use Rattle.route_plain.specs.Changing.{IsChange, IsNoMotion};
 use crate::choice::{choice_at, is_taker, some_pilfering};
 use crate::hold::{Hold, began, ids_with};
 use crate::loss::Loss;
-use crate::seen::Seen;
+use crate::seen::{Seen, reach_of};
 use crate::slip::{Slip, slip_of};
 use crate::turn::Turn;
 use bits32::Bits32;
@@ -80,7 +80,7 @@ fn spies(seen: &Seen, device: DeviceId, at: Pixel) -> u64
     ensures { let s = scene_at seen.now in (c : ℕ)
         → mask_has result c ≡ is_spy_at s.windows (s.reach device) at.x at.y c }
 {
-    seen.snapshot.spies(at.x, at.y, seen.live)
+    seen.snapshot.spies(at.x, at.y, &reach_of(seen))
 }
 
 /// The holds of those that get a pointer that goes down.

@@ -7,13 +7,14 @@ ghost use Rattle.window_snapshot.specs.Mask.{mask_has};
 ghost use Rattle.window_snapshot.specs.Window.{prevents_splitting};
 ghost use Rattle.window_snapshot.specs.Hits.{touched};
 ghost use Rattle.window_snapshot.specs.Occlusion.{is_blocked_at};
+ghost use Rattle.window_snapshot.specs.Walls.{reaches};
 ghost use Rattle.route_plain.specs.Seen.{scene_at};
 
 use crate::hold::{holds_any, is_earlier, is_pilfering};
-use crate::seen::Seen;
+use crate::seen::{Seen, reach_of};
 use input_types::{DeviceId, Pixel};
 use routing_rules::{Choice, Row};
-use window_snapshot::{Window, mask_has, mask_less};
+use window_snapshot::{Reach, Window, mask_has, mask_less};
 
 /// Whether the window is not a spy and holds something of the device.
 fn is_holder(seen: &Seen, device: DeviceId, window: &Window) -> bool
@@ -113,7 +114,7 @@ pub(crate) fn choice_at(seen: &Seen, device: DeviceId, at: Pixel) -> Choice
 {
     let first = earliest_holder(seen, device);
     let whole = earliest_whole_holder(seen, device);
-    let touched = seen.snapshot.touched(at.x, at.y, seen.live);
+    let touched = seen.snapshot.touched(at.x, at.y, &reach_of(seen));
     choose(first, whole, touched, is_alone(seen, device, touched))
 }
 
@@ -188,5 +189,13 @@ fn blocked(seen: &Seen, device: DeviceId, at: Pixel) -> u64
     ensures { let s = scene_at seen.now in (w : ℕ)
         → mask_has result w ≡ (mask_has seen.now.able w && is_blocked_at s.windows (s.reach device) at.x at.y w) }
 {
-    seen.snapshot.blocked(at.x, at.y, seen.live, seen.able)
+    blocked_in(seen, &reach_of(seen), at)
+}
+
+/// The mask of the windows that are able to take input but blocked at a place by one of those that a motion reaches.
+fn blocked_in(seen: &Seen, reach: &Reach, at: Pixel) -> u64
+    ensures { (w : ℕ) → mask_has result w
+        ≡ (mask_has seen.now.able w && is_blocked_at seen.now.snapshot.now (reaches reach.now) at.x at.y w) }
+{
+    seen.snapshot.blocked(at.x, at.y, reach, seen.able)
 }

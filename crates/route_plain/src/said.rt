@@ -18,7 +18,7 @@ ghost use Rattle.routing_rules.specs.Watching.{is_watching};
 use crate::change::{Change, changed};
 use crate::hold::{Hold, channels_with, ids_with, is_of, with_id};
 use crate::loss::{Loss, is_taken};
-use crate::seen::{Seen, last_of};
+use crate::seen::{Seen, last_of, reach_of};
 use crate::sending::{Held, send_cancels, send_motion};
 use crate::turn::{Said, Turn};
 use bits32::Bits32;
@@ -220,5 +220,5 @@ fn watchers(seen: &Seen, device: DeviceId, at: Pixel) -> u64
     ensures { let s = scene_at seen.now in (c : ℕ)
         → mask_has result c ≡ is_watcher_at s.windows (s.reach device) at.x at.y c }
 {
-    seen.snapshot.watchers(at.x, at.y, seen.live)
+    seen.snapshot.watchers(at.x, at.y, &reach_of(seen))
 }

@@ -1,10 +1,10 @@
 //! What the rules see before a turn.
 ghost use Rattle.std.specs.Prelude.{◌≡◌, ◌≤◌, length};
-ghost use Rattle.route_plain.specs.State.{last_of};
+ghost use Rattle.route_plain.specs.State.{last_of, reach_of};
 
 use crate::hold::{Hold, Pilferer};
-use input_types::{DeviceId, Pointers};
-use window_snapshot::Snapshot;
+use input_types::{DeviceId, DisplayId, Pointers};
+use window_snapshot::{Reach, Snapshot};
 
 /// What the rules see before a turn.
 #[derive(Clone, Copy)]
@@ -15,6 +15,16 @@ pub(crate) struct Seen<'a> {
     pub(crate) holds: &'a [Hold],
     pub(crate) pilferers: &'a [Pilferer],
     pub(crate) last: &'a [Pointers],
+}
+
+/// What each device reaches: the live channels, and the walls of display 0.
+pub(crate) fn reach_of(seen: &Seen) -> Reach
+    ensures { result ≡ reach_of seen.now.live }
+{
+    Reach {
+        channels: seen.live,
+        display: DisplayId::zero(),
+    }
 }
 
 /// The last places of a device.

@@ -8,7 +8,7 @@ ghost use Rattle.route_plain.specs.Slipping.{rule_slip, and_one, the_one};
 
 use crate::choice::may_take;
 use crate::hold::holds_pointer;
-use crate::seen::Seen;
+use crate::seen::{Seen, reach_of};
 use input_types::{DeviceId, Motion, MotionAction, Pixel, PointerId};
 use window_snapshot::Window;
 
@@ -114,7 +114,9 @@ pub(crate) fn slip_of(seen: &Seen, motion: &Motion) -> Option<Slip>
     match motion.action {
         MotionAction::Move => match motion.pointers.as_slice() {
             [pointer] => {
-                let touched = seen.snapshot.touched(pointer.at.x, pointer.at.y, seen.live);
+                let touched = seen
+                    .snapshot
+                    .touched(pointer.at.x, pointer.at.y, &reach_of(seen));
                 slips_to(
                     seen,
                     motion.device,

@@ -3,6 +3,7 @@ use Rattle.std.proofs.Common.{ℕ, ◌<◌, ◌≤◌, ◌≡◌, ◌==◌, ◌&
 use Rattle.std.specs.List.{find, list_any}
 use Rattle.std.proofs.lemmas.Bool.{cases_lt, lt-ltb, le-ltb, eq-eqb, eqb-true, and_parts, both_ways, true≢false}
 use Rattle.window_snapshot.specs.Mask.{is_channel, mask_has}
+use Rattle.window_snapshot.specs.declared.reach.Reach.{Reach}
 use Rattle.window_snapshot.specs.declared.window.Window.{Window}
 use Rattle.routing_rules.specs.Scene.{Scene}
 use Rattle.routing_rules.specs.Choice.{sooner, earliest}
@@ -45,7 +46,7 @@ drop_second f e (y ∷ ys) b w xs le h = (
 )
 
 -- the best so far, and the windows behind it
-walk : (t : Touches) (windows : List Window) (reach able d : ℕ) (e : ℕ → Bool) (b : ℕ) (xs : List ℕ)
+walk : (t : Touches) (windows : List Window) (reach : Reach) (able d : ℕ) (e : ℕ → Bool) (b : ℕ) (xs : List ℕ)
     → any t b ≡ true → AllHold t xs → Finds (since t) e (b ∷ xs) (b ∷ xs)
     → fold (sooner (scene_with windows reach able t) d) (Some b) xs ≡ find e (b ∷ xs)
 walk t windows reach able d e b [] h hs m =
@@ -91,7 +92,7 @@ walk t windows reach able d e b (w ∷ xs) h hs m = elim (cases_lt (since t w) (
             ∙ sym (ap (λ c. cond c (Some w) (find e xs)) (not_found is (e w) refl))
             ∙ sym (ap found is)
 
-earliest_found : (t : Touches) (windows : List Window) (reach able d : ℕ) (e : ℕ → Bool) (xs : List ℕ)
+earliest_found : (t : Touches) (windows : List Window) (reach : Reach) (able d : ℕ) (e : ℕ → Bool) (xs : List ℕ)
     → AllHold t xs → Finds (since t) e xs xs → earliest (scene_with windows reach able t) d xs ≡ find e xs
 earliest_found t windows reach able d e [] hs m = refl
 earliest_found t windows reach able d e (b ∷ xs) hs m = walk t windows reach able d e b xs hs.0 hs.1 m
@@ -194,7 +195,7 @@ found_in t p e (v ∷ ws) only = by_test (p v) (any t v.channel) (e v.channel) r
     by_test true false false h i r = r
 
 -- the front one of the earliest holders in a mask of windows is the earliest of those
-pub front_is : (t : Touches) (windows ws : List Window) (reach able d among found : ℕ) (p : Window → Bool)
+pub front_is : (t : Touches) (windows ws : List Window) (reach : Reach) (able d among found : ℕ) (p : Window → Bool)
     → ((w : ℕ) → IsTrue (mask_has found w) ↔ IsEarliest t among w)
     → ((w : ℕ) → mask_has among w ≡ (is_channel w && list_any (λ v. v.channel == w) (filter p ws)))
     → option_map (λ v. v.channel) (find (λ v. p v && mask_has found v.channel) ws)

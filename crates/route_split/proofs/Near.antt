@@ -5,6 +5,7 @@ use Rattle.input_types.specs.declared.motion.Motion.{Motion}
 use Rattle.input_types.specs.declared.motion.MotionAction.{MotionAction}
 use Rattle.input_types.specs.declared.motion.MotionAction.TheVariants.{Down, Up, Move, Cancel, Outside, PointerDown, PointerUp}
 use Rattle.input_types.specs.declared.pointer.Pointer.{Pointer}
+use Rattle.window_snapshot.specs.declared.reach.Reach.{Reach}
 use Rattle.window_snapshot.specs.declared.window.Window.{Window}
 use Rattle.routing_rules.specs.Pairs.{has}
 use Rattle.routing_rules.specs.Taking.{takes, pilfers}
@@ -65,7 +66,7 @@ taken_near s m Cancel None = refl
 taken_near s m Outside None = refl
 
 -- it is that of the device's table
-near_is : (s : Scene) (ts : List Touches) (windows : List Window) (reach able d : ℕ) → Stands s ts → Sees s windows reach able d
+near_is : (s : Scene) (ts : List Touches) (windows : List Window) (reach : Reach) (able d : ℕ) → Stands s ts → Sees s windows reach able d
     → near s d ≡ scene_with windows reach able (table_of ts d)
 near_is s ts windows reach able d f e k =
     record {
@@ -80,7 +81,7 @@ near_is s ts windows reach able d f e k =
     }
 
 -- a mark of a motion in the scene of its device's table is one in each scene that the tables stand for
-pub marks_motion : (s : Scene) (ts : List Touches) (t : Touches) (windows : List Window) (reach able : ℕ) (m : Motion) (k : Mark)
+pub marks_motion : (s : Scene) (ts : List Touches) (t : Touches) (windows : List Window) (reach : Reach) (able : ℕ) (m : Motion) (k : Mark)
     → Stands s ts → Sees s windows reach able m.device → table_of ts m.device ≡ t → IsMotionMark (scene_with windows reach able t) m k
     → IsMark ts k (mark s (Moves m))
 marks_motion s ts t windows reach able m k f e q is =
@@ -94,19 +95,19 @@ marks_motion s ts t windows reach able m k f e q is =
     }
 
 -- so is a choice
-pub chooses : (s : Scene) (ts : List Touches) (t : Touches) (windows : List Window) (reach able d : ℕ) (at : Pixel)
+pub chooses : (s : Scene) (ts : List Touches) (t : Touches) (windows : List Window) (reach : Reach) (able d : ℕ) (at : Pixel)
     → Stands s ts → Sees s windows reach able d → table_of ts d ≡ t → choice_at (scene_with windows reach able t) d at ≡ choice_at s d at
 chooses s ts t windows reach able d at f e q =
     ap (λ (x : Scene). choice_at x d at) (sym (near_is s ts windows reach able d f e ∙ ap (scene_with windows reach able) q))
 
 -- so are the targets
-pub targets_near : (s : Scene) (ts : List Touches) (t : Touches) (windows : List Window) (reach able d : ℕ) (at : Pixel)
+pub targets_near : (s : Scene) (ts : List Touches) (t : Touches) (windows : List Window) (reach : Reach) (able d : ℕ) (at : Pixel)
     → Stands s ts → Sees s windows reach able d → table_of ts d ≡ t → targets_at (scene_with windows reach able t) d at ≡ targets_at s d at
 targets_near s ts t windows reach able d at f e q =
     ap (λ (x : Scene). targets_at x d at) (sym (near_is s ts windows reach able d f e ∙ ap (scene_with windows reach able) q))
 
 -- so is what slips
-pub slip_near : (s : Scene) (ts : List Touches) (t : Touches) (windows : List Window) (reach able : ℕ) (m : Motion)
+pub slip_near : (s : Scene) (ts : List Touches) (t : Touches) (windows : List Window) (reach : Reach) (able : ℕ) (m : Motion)
     → Stands s ts → Sees s windows reach able m.device → table_of ts m.device ≡ t → slip (scene_with windows reach able t) m ≡ slip s m
 slip_near s ts t windows reach able m f e q =
     ap (λ (x : Scene). slip x m) (sym (near_is s ts windows reach able m.device f e ∙ ap (scene_with windows reach able) q))

@@ -5,14 +5,14 @@ ghost use Rattle.touch_state.specs.Touches.{any, holds, pilfering};
 
 use input_types::PointerId;
 use touch_state::TouchState;
-use window_snapshot::{Snapshot, is_channel, mask_has};
+use window_snapshot::{Reach, Snapshot, is_channel, mask_has};
 
 /// What the rules see before a motion of one device.
 #[derive(Clone, Copy)]
 pub(crate) struct Seen<'a> {
     pub(crate) windows: &'a Snapshot,
-    /// The mask of the channels that the device can reach.
-    pub(crate) reach: u64,
+    /// The windows that the device can reach.
+    pub(crate) reach: &'a Reach,
     /// The mask of the channels that are able to take input.
     pub(crate) able: u64,
     /// What windows hold of the device.

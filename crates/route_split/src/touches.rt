@@ -35,7 +35,7 @@ use routing_rules::Choice;
 use std::alloc::{AllocError, Global};
 use std::marker::Model;
 use touch_state::TouchState;
-use window_snapshot::Snapshot;
+use window_snapshot::{Reach, Snapshot};
 
 /// Which of the windows 1 to 64 hold which pointers of the devices 1 to 8, since when, and which of them are pilfering
 /// which device.
@@ -89,10 +89,10 @@ impl Touches {
     }
 
     /// The mark of a motion: which windows get a pointer that goes down, which lose one that goes up, and between
-    /// which windows one slips. The masks are those of the channels that the device can reach, and of those that can
-    /// take input.
-    pub fn mark_of(&self, motion: &Motion, windows: &Snapshot, reach: u64, able: u64) -> Mark
-        ensures mark { (s : Scene) → Stands s self.now → Sees s windows.now reach able motion.now.device
+    /// which windows one slips. `reach` says which windows the device can reach, and `able` which channels can take
+    /// input.
+    pub fn mark_of(&self, motion: &Motion, windows: &Snapshot, reach: &Reach, able: u64) -> Mark
+        ensures mark { (s : Scene) → Stands s self.now → Sees s windows.now reach.now able motion.now.device
             → IsMark self.now result (rule_mark s (Moves motion.now)) }
         ensures whole { IsWhole result }
     {
@@ -106,17 +106,17 @@ impl Touches {
     }
 
     /// The window that is chosen for a pointer of a device that goes down at a position, and the row of the table
-    /// that chose it. The masks are those of the channels that the device can reach, and of those that can take
+    /// that chose it. `reach` says which windows the device can reach, and `able` which channels can take
     /// input.
     pub fn choice(
         &self,
         device: DeviceId,
         at: Pixel,
         windows: &Snapshot,
-        reach: u64,
+        reach: &Reach,
         able: u64,
     ) -> Choice
-        ensures { (s : Scene) → Stands s self.now → Sees s windows.now reach able device
+        ensures { (s : Scene) → Stands s self.now → Sees s windows.now reach.now able device
             → result ≡ choice_at s device at }
     {
         let seen = Seen {
@@ -128,17 +128,17 @@ impl Touches {
         choice_at(&seen, device, at)
     }
 
-    /// The mask of the targets of a pointer of a device that goes down at a position, able or not. The masks are those
-    /// of the channels that the device can reach, and of those that can take input.
+    /// The mask of the targets of a pointer of a device that goes down at a position, able or not. `reach` says
+    /// which windows the device can reach, and `able` which channels can take input.
     pub fn targets(
         &self,
         device: DeviceId,
         at: Pixel,
         windows: &Snapshot,
-        reach: u64,
+        reach: &Reach,
         able: u64,
     ) -> u64
-        ensures { (s : Scene) → Stands s self.now → Sees s windows.now reach able device → (w : ℕ)
+        ensures { (s : Scene) → Stands s self.now → Sees s windows.now reach.now able device → (w : ℕ)
             → mask_has result w ≡ (is_channel w && list_any (λ v. v == w) (targets_at s device at)) }
     {
         let seen = Seen {
@@ -151,9 +151,9 @@ impl Touches {
     }
 
     /// The window from which the pointer of a motion slips, and the one to which it slips; None exactly if it does
-    /// not slip. The masks are those of the channels that the device can reach, and of those that can take input.
-    pub fn slip(&self, motion: &Motion, windows: &Snapshot, reach: u64, able: u64) -> Option<Way>
-        ensures { (s : Scene) → Stands s self.now → Sees s windows.now reach able motion.now.device
+    /// not slip. `reach` says which windows the device can reach, and `able` which channels can take input.
+    pub fn slip(&self, motion: &Motion, windows: &Snapshot, reach: &Reach, able: u64) -> Option<Way>
+        ensures { (s : Scene) → Stands s self.now → Sees s windows.now reach.now able motion.now.device
             → option_map rule_slip result ≡ slip s motion.now }
     {
         let seen = Seen {

@@ -56,12 +56,14 @@ pub(crate) fn first_windows(alloc: Global) -> Result<Snapshot, Fail> {
     )
 }
 
-/// The spy has all of the display, the strip is plain, the app is slippery, and a further spy is before it.
+/// The spy has all of the display, a wall and the plain strip are behind it, the app is slippery, and a further spy is
+/// before it.
 pub(crate) fn second_windows(alloc: Global) -> Result<Snapshot, Fail> {
     snapshot(
         alloc,
         &[
             (1, 0, 2400, WindowFlags::SPY),
+            (65, 600, 1000, WindowFlags::PREVENT_SPLITTING),
             (3, 0, 1200, WindowFlags::from_bits_retain(0)),
             (64, 0, 2400, WindowFlags::SPY),
             (5, 1200, 2400, WindowFlags::SLIPPERY),

@@ -5,13 +5,13 @@ ghost use Rattle.route_split.specs.Marking.{IsWhole};
 
 use bits32::Bits32;
 use dispatcher::cancel_synthesis::InputState;
-use input_types::{Body, DeviceId, Motion};
+use input_types::{Body, DeviceId, DisplayId, Motion};
 use pilfer_monitor::Losses;
 use route_plain::{Said, Turn};
 use route_split::{Mark, Sends, Touches, watchers};
 use std::alloc::Global;
 use std::test::Fail;
-use window_snapshot::{Snapshot, is_channel, mask_has};
+use window_snapshot::{Reach, Snapshot, is_channel, mask_has};
 
 /// The tables, and the input state of each of the windows 1 to 64.
 #[derive(Drop)]
@@ -55,8 +55,12 @@ impl SplitSide {
         let mut said = Vec::new(self.alloc);
         match turn {
             Turn::Pointers(motion) => {
-                let mark = self.touches.mark_of(motion, windows, masks.0, masks.1);
-                let watching = watchers(motion, windows, masks.0, masks.1);
+                let reach = Reach {
+                    channels: masks.0,
+                    display: DisplayId::zero(),
+                };
+                let mark = self.touches.mark_of(motion, windows, &reach, masks.1);
+                let watching = watchers(motion, windows, &reach, masks.1);
                 let _none_lost = self.touches.change(&mark, number);
                 self.send_motion(&mut said, motion, watching)?;
             }

@@ -4,6 +4,7 @@ use Rattle.std.specs.Prelude.{slice_get}
 use Rattle.std.specs.List.{list_any}
 use Rattle.std.proofs.lemmas.Bool.{and_parts, and_from, or_cases, or_left, or_right, cases_Bool, true≢false, both_ways, not-true, eqb-true}
 use Rattle.input_types.specs.declared.axis.Pixel.{Pixel}
+use Rattle.input_types.specs.declared.motion.Motion.{Motion}
 use Rattle.input_types.specs.declared.motion.MotionAction.{MotionAction}
 use Rattle.input_types.specs.declared.motion.MotionAction.TheVariants.{Down, Up, Move, Cancel, Outside, PointerDown, PointerUp}
 use Rattle.input_types.specs.declared.pointer.Pointer.{Pointer}
@@ -19,7 +20,7 @@ use Rattle.routing_rules.specs.Choice.{takers, may_take, chosen, is_candidate, i
 use Rattle.routing_rules.specs.Slip.{slip_of, slips_to, only, holders_of}
 use Rattle.window_snapshot.specs.Hits.{touched}
 use Rattle.routing_rules.specs.Given.{changed, cover_at, cover_by, given_by, pairs, slips_in}
-use Rattle.routing_rules.specs.Laws.{ClearLaw, BlockedLaw}
+use Rattle.routing_rules.specs.Laws.{AbleLaw, ClearLaw, BlockedLaw}
 
 -- if all that pass one test pass another, some pass that one too
 more : {X : Type 0} → (p q : X → Bool) → ((x : X) → p x ≡ true → q x ≡ true) → (xs : List X) → list_any p xs ≡ true → list_any q xs ≡ true
@@ -115,52 +116,81 @@ passes f test w (v ∷ ws) h = at (f v && test v.channel) refl h (λ k. passes f
         ]
 
 -- a window that takes a pointer may take it
-taker_may : (s : Scene) (d j w i : ℕ) (at : Pixel) → has (pairs d j (takers s d at)) w d i ≡ true → may_take s d at w ≡ true
-taker_may s d j w i at h =
-    passes (λ v. is_target s d (is_candidate s d at (chosen s d at)) v.channel) (may_take s d at) w s.windows (in_pairs d j w d i (takers s d at) h)
+taker_may : (s : Scene) (d j w e i : ℕ) (at : Pixel) → has (pairs d j (takers s d at)) w e i ≡ true → may_take s d at w ≡ true
+taker_may s d j w e i at h =
+    passes (λ v. is_target s d (is_candidate s d at (chosen s d at)) v.channel) (may_take s d at) w s.windows (in_pairs d j w e i (takers s d at) h)
 
 -- and so may one to which it slips
-slip_may : (s : Scene) (d j w i : ℕ) (at : Pixel) (from to : Option ℕ) → has (slips_in d j (slips_to s d at from to)) w d i ≡ true
+slip_may : (s : Scene) (d j w e i : ℕ) (at : Pixel) (from to : Option ℕ) → has (slips_in d j (slips_to s d at from to)) w e i ≡ true
     → may_take s d at w ≡ true
-slip_may s d j w i at None to h = absurd (true≢false (sym h))
-slip_may s d j w i at (Some v) None h = absurd (true≢false (sym h))
-slip_may s d j w i at (Some v) (Some t) h = by_test (shows s is_slippery v && not (t == v) && may_take s d at t) refl h
+slip_may s d j w e i at None to h = absurd (true≢false (sym h))
+slip_may s d j w e i at (Some v) None h = absurd (true≢false (sym h))
+slip_may s d j w e i at (Some v) (Some t) h = by_test (shows s is_slippery v && not (t == v) && may_take s d at t) refl h
   where
     by_test : (b : Bool) → (shows s is_slippery v && not (t == v) && may_take s d at t) ≡ b
-        → has (slips_in d j (if b then Some (record { from = v; to = t }) else None)) w d i ≡ true → may_take s d at w ≡ true
-    by_test false e k = absurd (true≢false (sym k))
-    by_test true e k =
-        elim (or_cases (t == w && d == d && j == i) false k) [
+        → has (slips_in d j (if b then Some (record { from = v; to = t }) else None)) w e i ≡ true → may_take s d at w ≡ true
+    by_test false q k = absurd (true≢false (sym k))
+    by_test true q k =
+        elim (or_cases (t == w && d == e && j == i) false k) [
           | inl a ↦
-              subst (λ c. may_take s d at c ≡ true) (eqb-true t w (and_parts (t == w) (d == d) (and_parts (t == w && d == d) (j == i) a).0).0)
-              (and_parts (shows s is_slippery v && not (t == v)) (may_take s d at t) e).1
+              subst (λ c. may_take s d at c ≡ true) (eqb-true t w (and_parts (t == w) (d == e) (and_parts (t == w && d == e) (j == i) a).0).0)
+              (and_parts (shows s is_slippery v && not (t == v)) (may_take s d at t) q).1
           | inr b ↦ absurd (true≢false (sym b))
         ]
+
+-- what a motion gives of a pointer may be taken there
+given_may : (s : Scene) (m : Motion) (p : Pointer) (w e i : ℕ) → changed m ≡ Some p → has (given_by s m m.action (Some p)) w e i ≡ true
+    → may_take s m.device p.at w ≡ true
+given_may s m p w e i is given_it = may m.action refl given_it
+  where
+    only_is : (ps : List Pointer) → slice_get ps m.index ≡ Some p
+        → has (slips_in m.device p.id (slip_of s m.device Move (only ps))) w e i ≡ true → may_take s m.device p.at w ≡ true
+    only_is [] q h = absurd (true≢false (sym h))
+    only_is (x ∷ []) q h =
+        subst (λ (r : Pointer). may_take s m.device r.at w ≡ true) (one_of x m.index q)
+        (slip_may s m.device p.id w e i x.at (only (holders_of s m.device x.id)) (touched s.windows (s.reach m.device) x.at.x x.at.y) h)
+      where
+        one_of : (x : Pointer) (n : ℕ) → slice_get (x ∷ []) n ≡ Some p → x ≡ p
+        one_of x zero q = cc
+        one_of x (suc n) q = cc
+    only_is (x ∷ r ∷ ps) q h = absurd (true≢false (sym h))
+
+    may : (a : MotionAction) → m.action ≡ a → has (given_by s m a (Some p)) w e i ≡ true → may_take s m.device p.at w ≡ true
+    may Down q h = taker_may s m.device p.id w e i p.at h
+    may PointerDown q h = taker_may s m.device p.id w e i p.at h
+    may Move q h =
+        only_is m.pointers is
+        (ap (λ a. has (slips_in m.device p.id (slip_of s m.device a (only m.pointers))) w e i) (sym q) ∙ h)
+    may Up q h = absurd (true≢false (sym h))
+    may PointerUp q h = absurd (true≢false (sym h))
+    may Cancel q h = absurd (true≢false (sym h))
+    may Outside q h = absurd (true≢false (sym h))
 
 pub blocked_law : BlockedLaw
 blocked_law s m p w i is given_it =
     not-true (is_blocked_at s.windows (s.reach m.device) p.at.x p.at.y w)
-    (and_parts (s.able w) (not (is_blocked_at s.windows (s.reach m.device) p.at.x p.at.y w)) (may m.action refl (ap (λ o. has (given_by s m m.action o) w m.device i) (sym is) ∙ given_it))).1
-  where
-    only_is : (ps : List Pointer) → slice_get ps m.index ≡ Some p
-        → has (slips_in m.device p.id (slip_of s m.device Move (only ps))) w m.device i ≡ true → may_take s m.device p.at w ≡ true
-    only_is [] e h = absurd (true≢false (sym h))
-    only_is (q ∷ []) e h =
-        subst (λ (r : Pointer). may_take s m.device r.at w ≡ true) (one_of q m.index e)
-        (slip_may s m.device p.id w i q.at (only (holders_of s m.device q.id)) (touched s.windows (s.reach m.device) q.at.x q.at.y) h)
-      where
-        one_of : (q : Pointer) (n : ℕ) → slice_get (q ∷ []) n ≡ Some p → q ≡ p
-        one_of q zero e = cc
-        one_of q (suc n) e = cc
-    only_is (q ∷ r ∷ ps) e h = absurd (true≢false (sym h))
+    (and_parts (s.able w) (not (is_blocked_at s.windows (s.reach m.device) p.at.x p.at.y w))
+    (given_may s m p w m.device i is (ap (λ o. has (given_by s m m.action o) w m.device i) (sym is) ∙ given_it))).1
 
-    may : (a : MotionAction) → m.action ≡ a → has (given_by s m a (Some p)) w m.device i ≡ true → may_take s m.device p.at w ≡ true
-    may Down e h = taker_may s m.device p.id w i p.at h
-    may PointerDown e h = taker_may s m.device p.id w i p.at h
-    may Move e h =
-        only_is m.pointers is
-        (ap (λ a. has (slips_in m.device p.id (slip_of s m.device a (only m.pointers))) w m.device i) (sym e) ∙ h)
-    may Up e h = absurd (true≢false (sym h))
-    may PointerUp e h = absurd (true≢false (sym h))
-    may Cancel e h = absurd (true≢false (sym h))
-    may Outside e h = absurd (true≢false (sym h))
+pub able_law : AbleLaw
+able_law s (Moves m) w d i given_it = by_pointer (changed m) refl given_it
+  where
+    none : (a : MotionAction) → has (given_by s m a None) w d i ≡ false
+    none Down = refl
+    none PointerDown = refl
+    none Move = refl
+    none Up = refl
+    none PointerUp = refl
+    none Cancel = refl
+    none Outside = refl
+
+    by_pointer : (o : Option Pointer) → changed m ≡ o → has (given_by s m m.action o) w d i ≡ true → s.able w ≡ true
+    by_pointer None e h = absurd (true≢false (sym h ∙ none m.action))
+    by_pointer (Some p) e h =
+        (and_parts (s.able w) (not (is_blocked_at s.windows (s.reach m.device) p.at.x p.at.y w)) (given_may s m p w d i e h)).0
+able_law s (Resets d) w e i given_it = absurd (true≢false (sym given_it))
+able_law s (Pilfers v d) w e i given_it = absurd (true≢false (sym given_it))
+able_law s (Shows stays) w e i given_it = absurd (true≢false (sym given_it))
+able_law s (Mutes muted) w e i given_it = absurd (true≢false (sym given_it))
+able_law s (Removes v) w e i given_it = absurd (true≢false (sym given_it))
+able_law s NoOp w e i given_it = absurd (true≢false (sym given_it))

@@ -4,6 +4,7 @@ pub mod PilferingLaws
 pub mod CoverLaws
 pub mod ClearLaws
 pub mod UnderLaws
+pub mod WallRows
 pub mod Worked
 pub mod Examples
 pub mod Blocked

@@ -84,6 +84,11 @@ CoverBegins =
 abbrev pub ClearLaw : Type 0
 ClearLaw = (s : Scene) (e : Step) (w : ℕ) → is_behind_another s.windows w ≡ false → cover s e w ≡ clear
 
+-- A step gives pointers to windows that can take input alone. A wall is no channel, so it cannot, and what it takes is
+-- given to nobody.
+abbrev pub AbleLaw : Type 0
+AbleLaw = (s : Scene) (e : Step) (w d i : ℕ) → has (given s e) w d i ≡ true → s.able w ≡ true
+
 -- A window that is blocked where a pointer is given is not given it.
 abbrev pub BlockedLaw : Type 0
 BlockedLaw =

@@ -12,7 +12,8 @@ use Rattle.routing_rules.specs.Pairs.{Pair, has, has_any}
 pub record Scene : Type 0 where
   -- the windows of the current snapshot, front to back
   pub windows : List Window
-  -- a motion of the device can reach the channel: it is live, and its window is on the display of the device
+  -- a motion of the device can reach the channel: it is live, and its window is on the display of the device; or it is the
+  -- number of the walls of that display
   pub reach : (device channel : ℕ) → Bool
   -- the channel can take input: it is live, and not unresponsive
   pub able : ℕ → Bool

@@ -1,6 +1,6 @@
 //! Proved facts about who holds what, and about what windows are sent. Each function has the laws as its clauses, and
 //! does nothing.
-ghost use Rattle.routing_rules.specs.Laws.{HoldsStep, HeldStep, HeldLaw, HeldAnyLaw, SinceStep, SinceLaw, PilferingStep, PilferingLaw, CoverLaw, CoverGrows, CoverBegins, ClearLaw, BlockedLaw, SentLaw, QuietLaw, FitsStep};
+ghost use Rattle.routing_rules.specs.Laws.{HoldsStep, HeldStep, HeldLaw, HeldAnyLaw, SinceStep, SinceLaw, PilferingStep, PilferingLaw, CoverLaw, CoverGrows, CoverBegins, ClearLaw, AbleLaw, BlockedLaw, SentLaw, QuietLaw, FitsStep};
 
 /// Who holds a pointer: some step gave it, and no later one took it. The list of pairs, computed step by step, says
 /// exactly this.
@@ -25,13 +25,14 @@ pub fn pilfering()
 {}
 
 /// What lay over a window when it was given pointers. It grows while the window holds something and begins anew with
-/// the next pointer. Nothing lies over a window that has no window of another owner in front of it. A window that is
-/// blocked is given no pointer.
+/// the next pointer. Nothing lies over a window that has no window of another owner in front of it. Only a window that
+/// can take input is given a pointer, and none that is blocked.
 pub fn covering()
     ensures places { CoverLaw }
     ensures grows { CoverGrows }
     ensures begins { CoverBegins }
     ensures clear { ClearLaw }
+    ensures able { AbleLaw }
     ensures blocked { BlockedLaw }
 {}
 

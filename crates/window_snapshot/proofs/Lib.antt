@@ -6,3 +6,4 @@ pub mod Naming
 pub mod Occluding
 pub mod Parts
 pub mod Touching
+pub mod Walls

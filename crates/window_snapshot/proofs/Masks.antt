@@ -1,13 +1,14 @@
 -- Masks as sets of channels.
 use Rattle.std.proofs.Common.{◌≡◌, ℕ, ◌+◌, ◌-◌, ◌^◌, ◌<◌, Bool, true, false, ◌&&◌, ◌||◌, cond, List, [], ◌∷◌, refl, ap, sym, ◌∙◌, arith, inl, inr}
-use Rattle.std.specs.Prelude.{◌==◌, bit_or, fold, filter}
+use Rattle.std.specs.Prelude.{◌==◌, bit_or, fold, filter, nat_lt, nat_le}
 use Rattle.std.specs.Int.{bit_at}
-use Rattle.std.proofs.lemmas.Bool.{cases_eq, eq-eqb, ne_eqb, and_parts, and_left, and_right, or_right, ltb-true, both_ways, false_from_ne_true, eqb-true, eqb-false, lt-ltb, le-leb, and_from}
+use Rattle.std.proofs.lemmas.Bool.{cases_eq, eq-eqb, ne_eqb, and_parts, and_left, and_right, or_right, ltb-true, both_ways, false_from_ne_true, eqb-true, eqb-false, lt-ltb, lt-leb, le-leb, and_from}
 use Rattle.std.proofs.lemmas.Nat.Bits.{bit_at_or, bit_at-pow_same, bit_at-pow_other, bit_at-lt, bit_at-zero, same_from_bits_below}
 use Rattle.window_snapshot.specs.declared.window.Window.{Window}
 use Rattle.window_snapshot.specs.Mask.{is_channel, mask_has, mask_with}
 use Rattle.window_snapshot.specs.MaskOf.{mask_of}
 use Rattle.window_snapshot.specs.Named.{is_named}
+use Rattle.window_snapshot.specs.Walls.{wall_on}
 use Rattle.window_snapshot.proofs.Naming.{named_passes}
 
 or_false : (t u : Bool) → u ≡ false → t ≡ (t || u)
@@ -115,6 +116,13 @@ mask_has-live p live ws c = mask_has-mask_of (filter p ws) c ∙ named_by_channe
 -- a mask has channels alone
 pub mask_has_channel : (mask c : ℕ) → mask_has mask c ≡ true → is_channel c ≡ true
 mask_has_channel mask c e = (and_parts _ _ e).0
+
+-- a wall has no channel, so it is in no mask
+pub mask_has-wall : (mask y : ℕ) → mask_has mask (wall_on y) ≡ false
+mask_has-wall mask y = ap (λ k. k && (bit_at mask (65 + y - 1) == 1)) (no_number y)
+  where
+    no_number : (y : ℕ) → is_channel (65 + y) ≡ false
+    no_number y = and_right (nat_lt 0 (65 + y)) (nat_le (65 + y) 64) (lt-leb (65 + y) 64 (omega arith))
 
 same_bit_at : (a b : ℕ) → a < 2 → b < 2 → (a == 1) ≡ (b == 1) → a ≡ b
 same_bit_at a b h k e =

@@ -1,4 +1,5 @@
--- Which windows of a snapshot, front to back, a point at (x, y) concerns. `live` says which channels are live.
+-- Which windows of a snapshot, front to back, a point at (x, y) concerns. `live` says which channels are live; it holds of the
+-- number of the display's walls too, which a point touches as it does the windows of live channels.
 use Rattle.std.specs.Prelude.{ℕ, ℤ, Bool, not, ◌&&◌, List, [], Option, is_some, option_map, filter, if◌then◌else◌}
 use Rattle.std.specs.List.{find, before_first}
 use Rattle.window_snapshot.specs.declared.window.Window.{Window}
@@ -17,7 +18,7 @@ spies_touch live x y w = is_spy w && is_hit live x y w
 abbrev pub touched_window : List Window → (ℕ → Bool) → ℤ → ℤ → Option Window
 touched_window windows live x y = find (takes_touch live x y) windows
 
--- its channel
+-- its channel, or the number of the walls
 abbrev pub touched : List Window → (ℕ → Bool) → ℤ → ℤ → Option ℕ
 touched windows live x y = option_map (λ w. w.channel) (touched_window windows live x y)
 

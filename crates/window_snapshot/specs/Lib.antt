@@ -8,5 +8,6 @@ pub mod Occlusion
 pub mod Opaque
 pub mod Snapshot
 pub mod Window
+pub mod Walls
 pub mod WindowList
 pub mod Origins

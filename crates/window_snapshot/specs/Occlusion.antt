@@ -1,5 +1,5 @@
 -- Which windows lie over a window of another owner, and which of those block it. `live` says which channels are live on the
--- display of the point, so a window of another display is none of them.
+-- display of the point, so a window of another display is none of them; it holds of the number of that display's walls too.
 use Rattle.std.specs.Prelude.{ℕ, ℤ, ◌-◌, ◌*◌, ◌/◌, Bool, not, ◌&&◌, ◌||◌, ◌==◌, nat_lt, List, fold, filter}
 use Rattle.std.specs.Int.RustNames.{int_lt}
 use Rattle.std.specs.List.{list_any, before_first}

@@ -2,7 +2,7 @@
 ghost use Rattle.std.specs.Prelude.{◌≡◌, ℕ, ◌&&◌, ◌==◌, [], IfOk, filter};
 
 use crate::flags::WindowFlags;
-use crate::mask::mask_with;
+use crate::mask::{is_channel, mask_with};
 use crate::window::Window;
 use input_types::{DisplayId, Pixel};
 use std::alloc::{AllocError, Global};
@@ -13,7 +13,8 @@ pub const MAX_WINDOWS: usize = 64;
 
 /// The windows on the displays at one time, front to back.
 ///
-/// Contracts see the list of its windows, the front one first. There are at most 64, no two of one channel.
+/// Contracts see the list of its windows, the front one first. There are at most 64, no two of one channel; any
+/// number of them are walls.
 #[derive(Drop)]
 pub struct Snapshot {
     windows: Vec<Window>,
@@ -61,7 +62,7 @@ impl Snapshot {
     }
 
     /// The snapshot of these windows, front to back. More than 64 are refused before any of them is looked at; then the
-    /// first whose channel stands before is refused.
+    /// first whose channel stands before is refused. Walls have no channel, so there may be any number of them.
     pub fn new(windows: Vec<Window>) -> Result<Snapshot, SnapshotError>
         ensures { result ≡ snapshot_of windows.items }
     {
@@ -174,7 +175,7 @@ fn first_twice(windows: &[Window]) -> Option<u32>
     ensures { result ≡ first_twice windows.now }
 {
     for (i, window) in windows.iter().enumerate() {
-        if is_named(windows.split_at(i).0, window.channel) {
+        if is_channel(window.channel) && is_named(windows.split_at(i).0, window.channel) {
             return Some(window.channel);
         }
     }

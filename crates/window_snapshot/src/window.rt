@@ -2,8 +2,9 @@
 ghost use Rattle.std.specs.Prelude.{◌≡◌, IfOk};
 
 use crate::flags::WindowFlags;
-use crate::mask::mask_has;
+use crate::mask::is_channel;
 use crate::occlusion::{Occlusion, Percent};
+use crate::reach::{Reach, wall_on};
 use bitflags::Flags;
 use input_types::DisplayId;
 use std::alloc::AllocError;
@@ -12,7 +13,8 @@ use touch_region::{Rect, Region};
 /// One window of a snapshot.
 #[derive(Drop)]
 pub struct Window {
-    /// The channel by which the window's owner is sent what the window gets.
+    /// The channel by which the window's owner is sent what the window gets, 1 to 64. A wall, a window of nobody, has
+    /// the number `wall_on(display)` in its place.
     pub channel: u32,
     /// The display that it is on. Its pixels are those of this display.
     pub display: DisplayId,
@@ -32,14 +34,21 @@ pub struct Window {
 }
 
 impl Window {
-    ghost use Rattle.window_snapshot.specs.Mask.{mask_has};
+    ghost use Rattle.window_snapshot.specs.Walls.{is_wall, reaches};
     ghost use Rattle.window_snapshot.specs.Window.{is_spy, is_touchable, is_focusable, watches_outside, is_slippery, prevents_splitting, is_trusted_overlay, is_hit};
 
-    /// Whether it has the flag SPY.
+    /// Whether it is a wall of its display: a window of nobody.
+    pub fn is_wall(&self) -> bool
+        ensures { result ≡ is_wall self.now }
+    {
+        self.channel == wall_on(self.display)
+    }
+
+    /// Whether it has the flag SPY. A wall is no spy.
     pub fn is_spy(&self) -> bool
         ensures { result ≡ is_spy self.now }
     {
-        self.flags.contains(WindowFlags::SPY)
+        is_channel(self.channel) && self.flags.contains(WindowFlags::SPY)
     }
 
     /// Whether it does not have the flag NOT_TOUCHABLE.
@@ -56,11 +65,11 @@ impl Window {
         !self.flags.contains(WindowFlags::NOT_FOCUSABLE)
     }
 
-    /// Whether it has the flag WATCH_OUTSIDE_TOUCH.
+    /// Whether it has the flag WATCH_OUTSIDE_TOUCH. A wall does not watch.
     pub fn watches_outside(&self) -> bool
         ensures { result ≡ watches_outside self.now }
     {
-        self.flags.contains(WindowFlags::WATCH_OUTSIDE_TOUCH)
+        is_channel(self.channel) && self.flags.contains(WindowFlags::WATCH_OUTSIDE_TOUCH)
     }
 
     /// Whether it has the flag SLIPPERY.
@@ -70,11 +79,11 @@ impl Window {
         self.flags.contains(WindowFlags::SLIPPERY)
     }
 
-    /// Whether it has the flag PREVENT_SPLITTING.
+    /// Whether it has the flag PREVENT_SPLITTING. A wall does not prevent it.
     pub fn prevents_splitting(&self) -> bool
         ensures { result ≡ prevents_splitting self.now }
     {
-        self.flags.contains(WindowFlags::PREVENT_SPLITTING)
+        is_channel(self.channel) && self.flags.contains(WindowFlags::PREVENT_SPLITTING)
     }
 
     /// Whether it has the flag TRUSTED_OVERLAY.
@@ -84,11 +93,11 @@ impl Window {
         self.flags.contains(WindowFlags::TRUSTED_OVERLAY)
     }
 
-    /// Whether its channel is in the mask `live`, it is touchable and its region has the point.
-    pub fn is_hit(&self, x: i32, y: i32, live: u64) -> bool
-        ensures { result ≡ is_hit (mask_has live) x y self.now }
+    /// Whether it can be reached, it is touchable and its region has the point.
+    pub fn is_hit(&self, x: i32, y: i32, reach: &Reach) -> bool
+        ensures { result ≡ is_hit (reaches reach.now) x y self.now }
     {
-        self.is_touchable() && mask_has(live, self.channel) && self.region.contains(x, y)
+        self.is_touchable() && reach.has(self.channel) && self.region.contains(x, y)
     }
 
     /// An equal window.

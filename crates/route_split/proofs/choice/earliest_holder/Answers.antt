@@ -15,5 +15,5 @@ returns c =
     let p : Window → Bool = λ v. not (is_spy v) in
     c.channel_of.ensures
     ∙ ap (option_map (λ v. v.channel)) (c.front_plain.ensures ∙ ap (find (λ v. p v && mask_has c.earliest-earliest.result v.channel)) c.windows.ensures.windows)
-    ∙ front_is n.table.now ws ws n.reach n.able c.args.device c.plain_windows.result c.earliest-earliest.result p c.earliest-earliest.ensures
+    ∙ front_is n.table.now ws ws n.reach.now n.able c.args.device c.plain_windows.result c.earliest-earliest.result p c.earliest-earliest.ensures
     (λ w. ap (λ m. mask_has m w) c.plain_windows.ensures ∙ mask_has-mask_of (filter p ws) w)

@@ -25,7 +25,7 @@ returns c =
     let p : Window → Bool = λ v. not (is_spy v) && prevents_splitting v in
     c.channel_of.ensures
     ∙ ap (option_map (λ v. v.channel)) (c.front_whole.ensures ∙ ap (find (λ v. p v && mask_has c.earliest-earliest.result v.channel)) c.windows.ensures.windows)
-    ∙ front_is n.table.now ws ws n.reach n.able c.args.device c.whole_windows.result c.earliest-earliest.result p c.earliest-earliest.ensures
+    ∙ front_is n.table.now ws ws n.reach.now n.able c.args.device c.whole_windows.result c.earliest-earliest.result p c.earliest-earliest.ensures
     (λ w. ap (λ m. mask_has m w) c.whole_windows.ensures ∙ mask_has-mask_of (filter p ws) w)
     ∙ ap (λ (q : Window → Bool). earliest (scene_at n) c.args.device (map (λ v. v.channel) (filter q ws)))
     (fun_ext (λ (v : Window). swap (not (is_spy v)) (prevents_splitting v) (any n.table.now v.channel)))

@@ -12,4 +12,4 @@ returns c s f e =
     let at : table_of c.args.self.now d ≡ t =
     ap (λ ts. table_of ts d) (sym c.self.view_is)
     ∙ table-at c.self.inside.states.items d c.index_of.result t c.self.invariant.eight c.index_of.ensures.device c.index_of.ensures.value ∙ sym c.index.ensures in
-    c.choice_at.ensures ∙ chooses s c.args.self.now t c.args.windows.now c.args.reach c.args.able d c.args.at f e at
+    c.choice_at.ensures ∙ chooses s c.args.self.now t c.args.windows.now c.args.reach.now c.args.able d c.args.at f e at

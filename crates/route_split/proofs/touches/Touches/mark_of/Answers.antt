@@ -13,6 +13,6 @@ returns c =
     ap (λ ts. table_of ts d) (sym c.self.view_is)
     ∙ table-at c.self.inside.states.items d c.index_of.result t c.self.invariant.eight c.index_of.ensures.device c.index_of.ensures.value ∙ sym c.index.ensures in
     record {
-      mark = λ s f e. marks_motion s c.args.self.now t c.args.windows.now c.args.reach c.args.able c.args.motion.now c.mark_of.result f e at c.mark_of.ensures;
+      mark = λ s f e. marks_motion s c.args.self.now t c.args.windows.now c.args.reach.now c.args.able c.args.motion.now c.mark_of.result f e at c.mark_of.ensures;
       whole = c.mark_of.ensures.whole;
     }

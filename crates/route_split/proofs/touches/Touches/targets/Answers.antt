@@ -15,4 +15,4 @@ returns c s f e w =
     ap (λ ts. table_of ts d) (sym c.self.view_is)
     ∙ table-at c.self.inside.states.items d c.index_of.result t c.self.invariant.eight c.index_of.ensures.device c.index_of.ensures.value ∙ sym c.index.ensures in
     c.targets.ensures w
-    ∙ ap (λ vs. is_channel w && list_any (λ v. v == w) vs) (targets_near s c.args.self.now t c.args.windows.now c.args.reach c.args.able d c.args.at f e at)
+    ∙ ap (λ vs. is_channel w && list_any (λ v. v == w) vs) (targets_near s c.args.self.now t c.args.windows.now c.args.reach.now c.args.able d c.args.at f e at)

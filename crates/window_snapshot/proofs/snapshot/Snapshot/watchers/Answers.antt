@@ -2,23 +2,23 @@ use Rattle.std.proofs.Common.{sym, ◌∙◌}
 use Rattle.std.specs.Int.{w32}
 use Rattle.std.proofs.lemmas.Int.{to_z-of_z}
 use Rattle.window_snapshot.specs.Hits.{is_watcher_at, takes_touch}
-use Rattle.window_snapshot.specs.Mask.{mask_has}
+use Rattle.window_snapshot.specs.Walls.{reaches}
 use Rattle.window_snapshot.proofs.Fronts.{before_first_at, find_at_place, find_none}
 use Rattle.window_snapshot.proofs.Touching.{mask_has-watchers, mask_has-no_watchers, same_at}
 use Rattle.window_snapshot.proofs.snapshot.Snapshot.watchers.Goals as goal
 
 pub returns-in-Some : goal.returns-in-Some
 returns-in-Some c =
-    λ k. mask_has-watchers c.windows-windows.result.now _ c.args.live _ _ _
-    (find_at_place (takes_touch (mask_has c.args.live) _ _) c.windows-windows.result.now _ (sym c.touched_place.ensures ∙ c.in-Some.is))
+    λ k. mask_has-watchers c.windows-windows.result.now _ (reaches c.args.reach.now) _ _ _
+    (find_at_place (takes_touch (reaches c.args.reach.now) _ _) c.windows-windows.result.now _ (sym c.touched_place.ensures ∙ c.in-Some.is))
     (before_first_at _ _ _ (sym c.touched_place.ensures ∙ c.in-Some.is) ∙ sym c.split_at.ensures.front)
     c.watcher_mask.ensures k
-    ∙ same_at (λ ws x y. is_watcher_at ws (mask_has c.args.live) x y k) _ _ _ _ _ _ c.windows-windows.ensures.windows
+    ∙ same_at (λ ws x y. is_watcher_at ws (reaches c.args.reach.now) x y k) _ _ _ _ _ _ c.windows-windows.ensures.windows
     (to_z-of_z w32 c.args.x c.ranges.x) (to_z-of_z w32 c.args.y c.ranges.y)
 
 pub returns-in-None : goal.returns-in-None
 returns-in-None c =
-    λ k. mask_has-no_watchers c.windows-windows.result.now c.args.live _ _
-    (find_none (takes_touch (mask_has c.args.live) _ _) c.windows-windows.result.now (sym c.touched_place.ensures ∙ c.in-None.is)) k
-    ∙ same_at (λ ws x y. is_watcher_at ws (mask_has c.args.live) x y k) _ _ _ _ _ _ c.windows-windows.ensures.windows
+    λ k. mask_has-no_watchers c.windows-windows.result.now (reaches c.args.reach.now) _ _
+    (find_none (takes_touch (reaches c.args.reach.now) _ _) c.windows-windows.result.now (sym c.touched_place.ensures ∙ c.in-None.is)) k
+    ∙ same_at (λ ws x y. is_watcher_at ws (reaches c.args.reach.now) x y k) _ _ _ _ _ _ c.windows-windows.ensures.windows
     (to_z-of_z w32 c.args.x c.ranges.x) (to_z-of_z w32 c.args.y c.ranges.y)
