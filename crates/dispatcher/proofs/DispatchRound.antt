@@ -8,4 +8,6 @@ pub mod Reaching
 pub mod Rooms
 pub mod MoveLaws
 pub mod Lightly
+pub mod Passing
+pub mod PassingEach
 mod Examples

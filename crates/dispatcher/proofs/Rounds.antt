@@ -15,3 +15,6 @@ pub mod Gifts
 pub mod Missing
 pub mod Cancelling
 pub mod Moved
+pub mod PastParts
+pub mod Unkept
+pub mod PassedBy

@@ -4,3 +4,4 @@ pub mod Outgoing
 pub mod Saying
 pub mod Each
 pub mod Light
+pub mod Past

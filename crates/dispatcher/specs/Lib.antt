@@ -28,6 +28,8 @@ pub mod Carrying
 pub mod Anr
 pub mod Opening
 pub mod Roomy
+pub mod Past
+pub mod MovedOn
 pub mod InboundArgs
 pub mod CancelSynthesis
 pub mod InputChannel

@@ -64,6 +64,22 @@ ReleaseLaw =
     → u ≡ with_channel c s t
     → KeptStandsFor displays es later × ((channel_of u c).messages ≡ drop s.gone (reverse (stream es c)))
 
+-- So do channels each of which still holds what it is to hold, such as those that release all of it.
+abbrev pub EachGoLaw : Type 0
+EachGoLaw =
+    (displays : List ℕ) (es : List Effect) (k later : Kept) (t u : Table)
+    → KeptStandsFor displays es k
+    → SameBut k later
+    → k.delivery ≡ delivery_of t
+    → later.delivery ≡ delivery_of u
+    → later.inputs ≡ k.inputs
+    → opened u ≡ opened t
+    → u.live ≡ t.live
+    → u.able ≡ t.able
+    → u.anrs ≡ t.anrs
+    → ((c : ℕ) → 1 ≤ c → c ≤ opened t → Holds es c (channel_of t c) → Holds es c (channel_of u c))
+    → KeptStandsFor displays es later
+
 -- So do those of which the ANRs are released.
 abbrev pub AnrsGoLaw : Type 0
 AnrsGoLaw =

@@ -7,6 +7,7 @@ use Rattle.input_types.specs.declared.message.Body.{Body}
 use Rattle.input_types.specs.declared.message.Args.TheVariants.{Motion as MotionArgs, Key as KeyOfDevice, Reset}
 use Rattle.input_types.specs.declared.motion.Motion.{Motion}
 use Rattle.window_snapshot.specs.declared.window.Window.{Window}
+use Rattle.window_snapshot.specs.declared.reach.Reach.{Reach}
 use Rattle.window_snapshot.specs.Mask.{mask_has, mask_with, is_channel}
 use Rattle.window_snapshot.specs.Named.{is_shown_on}
 use Rattle.focus_resolver.specs.Changes.{IsOnlyIn}
@@ -143,14 +144,18 @@ RemoveLaw =
     → GoesRemoved now channel t k later
     → KeptStandsFor displays (step displays (Remove now channel) Done es) later
 
--- The scene of a history has the windows that are kept, the channels that a device can reach, where the mask has the live ones that are
--- shown on its display, and those that are able to take input.
+-- these channels, and the walls of this display
+abbrev pub reach_on : (channels display : ℕ) → Reach
+reach_on channels display = record { channels = channels; display = display }
+
+-- The scene of a history has the windows that are kept, those that a device can reach, where the mask has the live channels that are
+-- shown on its display, and the channels that are able to take input.
 abbrev pub SeesLaw : Type 0
 SeesLaw =
     (displays : List ℕ) (es : List Effect) (k : Kept) (device reach : ℕ)
     → KeptStandsFor displays es k
     → ((c : ℕ) → mask_has reach c ≡ (mask_has k.delivery.live c && is_shown_on k.shown.windows (device_display displays device) c))
-    → Sees (scene displays es) k.shown.windows reach k.delivery.able device
+    → Sees (scene displays es) k.shown.windows (reach_on reach (device_display displays device)) k.delivery.able device
 
 -- A motion that waits first is the step of a pump, by the mark that the tables of touches find for it and the windows that watch.
 abbrev pub MotionStepLaw : Type 0
@@ -159,9 +164,9 @@ MotionStepLaw =
     → KeptStandsFor displays es k
     → slice_get k.queue.waiting 0 ≡ Some (MotionArgs m)
     → ((c : ℕ) → mask_has reach c ≡ (mask_has k.delivery.live c && is_shown_on k.shown.windows (device_display displays m.device) c))
-    → ((s : Scene) → Stands s k.touches → Sees s k.shown.windows reach k.delivery.able m.device → IsMark k.touches by (rule_mark s (Moves m)))
+    → ((s : Scene) → Stands s k.touches → Sees s k.shown.windows (reach_on reach (device_display displays m.device)) k.delivery.able m.device → IsMark k.touches by (rule_mark s (Moves m)))
     → ((s : Scene)
-    → Sees s k.shown.windows reach k.delivery.able m.device
+    → Sees s k.shown.windows (reach_on reach (device_display displays m.device)) k.delivery.able m.device
     → (w : ℕ)
     → mask_has watchers w ≡ is_watching s m (changed m) w)
     → IsStepIn (scene displays es) k.touches by (Some m) watchers (step_at (Pump now) Dispatched es)

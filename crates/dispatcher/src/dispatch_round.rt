@@ -25,6 +25,7 @@ mod devices;
 mod light;
 mod listener;
 mod motions;
+mod past;
 mod room;
 mod round;
 mod say;
@@ -32,6 +33,7 @@ mod send;
 
 pub use concern::listeners;
 pub use light::{make_light_room, send_light};
+pub use past::{keep_none, send_past};
 pub use room::make_room;
 pub use round::Round;
 pub use send::send_all;

@@ -17,6 +17,8 @@ ghost use Rattle.dispatcher.specs.Access.{is_opened, gone, anrs_released, messag
 ghost use Rattle.dispatcher.specs.Access.{is_waiting, next_repeat, HoldsInput};
 ghost use Rattle.dispatcher.specs.Covering.{CoversAre};
 ghost use Rattle.dispatcher.specs.Dispatching.{IsAfter, StandsFor};
+ghost use Rattle.dispatcher.specs.CancelSynthesis.Tracked.{pointers_of};
+ghost use Rattle.dispatcher.specs.DispatchChannels.Table.{input_of};
 ghost use Rattle.dispatcher.specs.Memory.{IsCalm, MayCount};
 ghost use Rattle.dispatcher.specs.Queueing.{args_in, is_input, is_pump};
 
@@ -24,6 +26,7 @@ mod apply;
 mod asked;
 mod inputs;
 mod owned;
+mod passing;
 mod pending;
 mod releasing;
 mod requests;
@@ -210,6 +213,8 @@ impl Dispatcher {
         ensures some { (es : List Effect) → IsAfter es self.now → is_some result ≡ is_opened es channel }
         ensures value { (es : List Effect) → IsAfter es self.now → live (past_of es) channel ≡ true
             → IfSome result (λ input. HoldsInput es channel input.now) }
+        ensures pointers { (device : ℕ) → IfSome result (λ input.
+            pointers_of input.now device ≡ pointers_of (input_of self.now.channels channel) device) }
     {
         if 0 < channel && channel <= self.tables.routing.channels.opened() {
             Some(self.tables.routing.channels.input(channel))

@@ -23,4 +23,4 @@ mod moves;
 mod unfinished;
 
 pub use channel::{Channel, UnknownSeq};
-pub use moves::list_from;
+pub use moves::{list_from, place_from};

@@ -62,6 +62,7 @@ pub mod key_tables;
 mod motions;
 mod outcome;
 mod owners;
+mod past;
 pub mod pointers_by_id;
 mod pumping;
 mod queueing;

@@ -18,7 +18,7 @@ use dispatch_calls::Reply;
 use input_types::{DeviceId, Moment, Motion, MotionAction};
 use route_split::{Mark, watchers};
 use std::alloc::AllocError;
-use window_snapshot::{Window, mask_has};
+use window_snapshot::{Reach, Window, mask_has};
 
 /// Dispatches a motion.
 pub(crate) fn route_motion(
@@ -38,14 +38,18 @@ pub(crate) fn route_motion(
         }
     }
     let windows = routing.shown.windows();
-    let reach = routing.channels.live() & windows.on(routing.displays.of(motion.device));
+    let display = routing.displays.of(motion.device);
+    let reach = Reach {
+        channels: routing.channels.live() & windows.on(display),
+        display,
+    };
     let able = routing.channels.able();
-    let mark = routing.touches.mark_of(motion, windows, reach, able);
+    let mark = routing.touches.mark_of(motion, windows, &reach, able);
     let round = Round {
         mark,
         motion: Some(motion),
-        gift: gift_of(&mark, motion, windows, reach),
-        watchers: watchers(motion, windows, reach, able),
+        gift: gift_of(&mark, motion, windows, &reach),
+        watchers: watchers(motion, windows, &reach, able),
         target: routing.focus.target().unwrap_or(0),
         keys: &[],
         lost: 0,
@@ -82,7 +86,7 @@ fn route_move(
 }
 
 /// Whether the action is a Move.
-fn is_move(action: MotionAction) -> bool
+pub(crate) fn is_move(action: MotionAction) -> bool
     ensures { result ≡ true → action ≡ Move }
 {
     match action {

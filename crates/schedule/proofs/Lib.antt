@@ -28,3 +28,5 @@ pub mod Removing
 pub mod Counting
 pub mod Formed
 pub mod Twice
+pub mod MovedPast
+pub mod EachMoved

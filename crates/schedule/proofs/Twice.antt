@@ -24,12 +24,12 @@ pub none_mapped : {X Y : Type 0} (o : Option X) (f : X → Y) → is_some o ≡ 
 none_mapped None f e = refl
 none_mapped (Some x) f e = absurd (cc e)
 
-no_more : (o : Option (List ℕ)) (more : List ℕ) → o ≡ None → o ≡ and_more more o
+pub no_more : (o : Option (List ℕ)) (more : List ℕ) → o ≡ None → o ≡ and_more more o
 no_more None more e = refl
 no_more (Some text) more e = absurd (cc e)
 
 -- a call is answered where there is no text of causes
-quietly : (call : Call) (es : List Effect) (ds : List ℕ) (old new : Option (List ℕ)) (d : Dispatching) → old ≡ None → new ≡ old
+pub quietly : (call : Call) (es : List Effect) (ds : List ℕ) (old new : Option (List ℕ)) (d : Dispatching) → old ≡ None → new ≡ old
     → (answer : Reply) × IsAfter (step ds call answer es) d → Applies call es ds old new d
 quietly call es ds old new d none same there = record { answer = there.0; stands = there.1; causes = same ∙ no_more old _ none }
 

@@ -10,6 +10,7 @@ use Rattle.schedule.specs.declared.keeping.Lines.{Lines}
 use Rattle.schedule.specs.Kinds.{is_receiving}
 use Rattle.schedule.specs.More.{ComesTo}
 use Rattle.schedule.specs.Receives.{receives_of}
+use Rattle.schedule.specs.Released.{KeepsUnfinished}
 use Rattle.schedule.specs.Run.{messages_in}
 use Rattle.schedule.specs.State.{ScheduleState, HasWith, ReadyWith, counted}
 
@@ -40,6 +41,12 @@ abbrev pub MakesTwo : {A E : Type 0} → Result A E → (first second : Call) �
 MakesTwo result first second old new =
     (how : Lines) (plan : Plan) (es : List Effect) → HasWith how plan es old
     → OnOk result (HasWith how plan (answered plan.displays second (answered plan.displays first es)) new)
+
+-- if it succeeds after a round, only live channels with an unfinished message may keep any of what these two calls sent
+abbrev pub KeepsTwo : {A E : Type 0} → Result A E → (first second : Call) → (old new : ScheduleState) → Type 0
+KeepsTwo result first second old new =
+    (how : Lines) (plan : Plan) (es : List Effect) → ReadyWith how plan es old
+    → OnOk result (KeepsUnfinished (answered plan.displays second (answered plan.displays first es)) new.dispatcher)
 
 -- if it succeeds, the run has one more call, this one, which is no receive, and `next` steps of scripts were made with it
 abbrev pub MakesWith : {A E : Type 0} → Result A E → Call → (next : ℕ) → (old new : ScheduleState) → Type 0

@@ -8,6 +8,7 @@ pub mod OrderReading
 pub mod OrderTexts
 pub mod Places
 pub mod Held
+pub mod Moved
 pub mod Triples
 pub mod Numbers
 pub mod Pointers

@@ -14,11 +14,11 @@ use Rattle.routing_rules.specs.Outgoing.{plain}
 use Rattle.dispatcher.specs.InputChannel.Moves.{move_of}
 use Rattle.dispatcher.specs.declared.input_channel.unfinished.Unfinished.{Unfinished}
 use Rattle.dispatcher.specs.InputChannel.Order.{NoneAfter, without}
-use Rattle.dispatcher.specs.InputChannel.State.{ChannelState, opened_with, enqueued, with_spare}
+use Rattle.dispatcher.specs.InputChannel.State.{ChannelState, opened_with, enqueued, each_released, with_spare}
 use Rattle.dispatcher.specs.CancelSynthesis.Tracked.{Tracked, Tracks, pointers_of}
 use Rattle.dispatcher.specs.DispatchChannels.Table.{Table, channel_of, input_of, unsent, but_for_room, NoLessRoom}
 use Rattle.dispatcher.specs.DispatchChannels.Heard.{body_from}
-use Rattle.dispatcher.specs.DispatchChannels.Changes.{Sends}
+use Rattle.dispatcher.specs.DispatchChannels.Changes.{Sends, SendsPast}
 
 -- a channel and what its window was sent, once both have one thing more
 pub sends : (t : Table) (c : ℕ) (body heard : Body) (o : Pixel) (clock : ℕ) (x s : ChannelState) (j i : Tracked)
@@ -31,6 +31,21 @@ sends t c body heard o clock x s j i from hears is was tracked within =
       inputs_are = ap (set t.inputs (c - 1)) (sym there);
       tracks =
           subst (λ k. Tracks (input_of t c) k body) (sym there) (subst (λ k. Tracks k i body) was tracked);
+      live_is = refl;
+      able_is = refl;
+      anrs_are = refl;
+    }
+
+-- the same where the channel releases the message
+pub sends_past : (t : Table) (c : ℕ) (body : Body) (o : Pixel) (clock : ℕ) (x s : ChannelState) (j i : Tracked)
+    → x ≡ channel_of t c → s ≡ each_released (enqueued (body_from o body) clock x) → j ≡ input_of t c → Tracks j i body → c - 1 < length t.inputs
+    → SendsPast c body o clock t (record t { channels = set t.channels (c - 1) s; inputs = set t.inputs (c - 1) i })
+sends_past t c body o clock x s j i from is was tracked within =
+    let kept = sends t c body (body_from o body) o clock x (enqueued (body_from o body) clock x) j i from refl refl was tracked within in
+    record {
+      channels_are = ap (set t.channels (c - 1)) (is ∙ ap (λ y. each_released (enqueued (body_from o body) clock y)) from);
+      inputs_are = kept.inputs_are;
+      tracks = kept.tracks;
       live_is = refl;
       able_is = refl;
       anrs_are = refl;

@@ -90,6 +90,28 @@ light_concerned r ts w light =
 
 -- ---- a window is sent
 
+-- of a Move with which no pointer changes hands the rules say that the pointers move that a window holds
+pub moves_by_rules : (m : Motion) (r : Round) (ts us : List Touches) (s : Scene) (e : Step) (w : ℕ) → IsLight r → option_copied r.motion ≡ Some m
+    → 1 ≤ m.device → m.device ≤ 8 → IsChanged ts us r.mark None → IsRound s e ts r
+    → moves m.device (listing (holds_at us w m.device) m.pointers) ≡ motions_of s e w
+moves_by_rules m r ts us s e w light opt low high by h =
+    let step = subst (λ o. IsStepIn s ts r.mark o r.watchers e) opt h.step_is in
+    let same : (i : ℕ) → holds_at us w m.device i ≡ holds_at ts w m.device i =
+    λ i.
+    by.holds_are w m.device i
+    ∙ ap (λ k. holds_after ts k w m.device i) light.mark_is
+    ∙ sym (and_true (holds_at ts w m.device i)) in
+    let was : s.holds w m.device ≡ holds_at us w m.device =
+    fun_ext (λ i. ap (λ (g : ℕ → ℕ → ℕ → Bool). g w m.device i) h.stands.holds_are ∙ sym (same i)) in
+    let now : after s (mark s (Moves m)) w m.device ≡ holds_at us w m.device =
+    fun_ext (λ i. after_is s ts r.mark (mark s (Moves m)) h.stands step.1 w m.device i ∙ sym (by.holds_are w m.device i)) in
+    sym
+    (ap (λ f. motions_of s f w) step.0
+    ∙ motion_sent s m w low high
+    ∙ ap (λ b. cond b (sent_motion s m (changed m) w (s.holds w m.device) (after s (mark s (Moves m)) w m.device)) []) (eq-eqb m.device m.device refl)
+    ∙ ap₂ (sent_motion s m (changed m) w) was now
+    ∙ still_moves s m w (holds_at us w m.device) (is_move r m light opt))
+
 pub hears_moved : (m : Motion) (r : Round) (us : List Touches) (to : Listener) (t u : Table) → IsLight r → option_copied r.motion ≡ Some m
     → 1 ≤ m.device → m.device ≤ 8 → SendsOne to (moved to.covers.now us m to.window) t u → HearsMoves r us to t u
 hears_moved m r us to t u light opt low high says = record {
@@ -98,44 +120,16 @@ hears_moved m r us to t u light opt low high says = record {
         motions = ms;
         few = subst (λ o. length ms ≤ most_motions o (input_of t to.window)) (sym opt) (omega (arith, one));
         outgoing = says;
-        by_rules = λ s e ts by h holds. by_rules s e ts by h;
+        by_rules = λ s e ts by h holds. moves_by_rules m r ts us s e to.window light opt low high by h;
       };
   few = at_most;
 }
   where
-    held : ℕ → Bool
-    held = holds_at us to.window m.device
-
     ms : List Motion
-    ms = moves m.device (listing held m.pointers)
-
-    sent_is : (s : Scene) → outgoing s (Moves m) to.window m.device
-        ≡ sent_motion s m (changed m) to.window (s.holds to.window m.device) (after s (mark s (Moves m)) to.window m.device)
-    sent_is s =
-        ap (λ b. cond b (sent_motion s m (changed m) to.window (s.holds to.window m.device) (after s (mark s (Moves m)) to.window m.device)) [])
-        (eq-eqb m.device m.device refl)
-
-    by_rules : (s : Scene) (e : Step) (ts : List Touches) → IsChanged ts us r.mark None → IsRound s e ts r → ms ≡ motions_of s e to.window
-    by_rules s e ts by h =
-        let step = subst (λ o. IsStepIn s ts r.mark o r.watchers e) opt h.step_is in
-        let same : (i : ℕ) → holds_at us to.window m.device i ≡ holds_at ts to.window m.device i =
-        λ i.
-        by.holds_are to.window m.device i
-        ∙ ap (λ k. holds_after ts k to.window m.device i) light.mark_is
-        ∙ sym (and_true (holds_at ts to.window m.device i)) in
-        let was : s.holds to.window m.device ≡ held =
-        fun_ext (λ i. ap (λ (g : ℕ → ℕ → ℕ → Bool). g to.window m.device i) h.stands.holds_are ∙ sym (same i)) in
-        let now : after s (mark s (Moves m)) to.window m.device ≡ held =
-        fun_ext (λ i. after_is s ts r.mark (mark s (Moves m)) h.stands step.1 to.window m.device i ∙ sym (by.holds_are to.window m.device i)) in
-        sym
-        (ap (λ f. motions_of s f to.window) step.0
-        ∙ motion_sent s m to.window low high
-        ∙ sent_is s
-        ∙ ap₂ (sent_motion s m (changed m) to.window) was now
-        ∙ still_moves s m to.window held (is_move r m light opt))
+    ms = moves m.device (listing (holds_at us to.window m.device) m.pointers)
 
     one : length ms ≤ 1
-    one = few_moves m.device (listing held m.pointers)
+    one = few_moves m.device (listing (holds_at us to.window m.device) m.pointers)
 
     at_most : length ms ≤ most_moves (option_copied r.motion)
     at_most = subst (λ o. length ms ≤ most_moves o) (sym opt) one

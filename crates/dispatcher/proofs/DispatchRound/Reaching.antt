@@ -175,7 +175,7 @@ publishes b l x y e f = ap₂ (λ a k. cond (a && k) x y) e f
 leaves : (b l : Bool) (x y : ChannelState) → b ≡ false → cond (b && l) x y ≡ y
 leaves b l x y e = ap (λ a. cond (a && l) x y) e
 
-only_first : (a l : Bool) → (a && l) ≡ false → l ≡ true → a ≡ false
+pub only_first : (a l : Bool) → (a && l) ≡ false → l ≡ true → a ≡ false
 only_first a l none live = sym (and_true_right a) ∙ ap (λ x. a && x) (sym live) ∙ none
 
 pub sends_all : (covers : CoverTable) (s : Scene) (e : Step) (r : Round) (ts us : List Touches) (o : Option (List ℕ)) (mask : ℕ) (origins : List Pixel) (clock : ℕ) (t u v : Table)

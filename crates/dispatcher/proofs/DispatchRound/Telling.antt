@@ -44,7 +44,7 @@ told_keys covers w [] bs held = refl
 told_keys covers w (m ∷ ms) bs held = told_keys covers w ms bs held
 
 -- a motion without flags of its own has those of the cover
-no_flags : (c : Cover) → flags_of c ≡ bit_or 0 (flags_of c)
+pub no_flags : (c : Cover) → flags_of c ≡ bit_or 0 (flags_of c)
 no_flags c = by_bits c.obscured c.partly
   where
     by_bits : (o p : Bool) → flags_of (record { obscured = o; partly = p }) ≡ bit_or 0 (flags_of (record { obscured = o; partly = p }))

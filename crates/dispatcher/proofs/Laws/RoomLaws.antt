@@ -20,7 +20,7 @@ use Rattle.dispatcher.specs.Pointing.{TouchesAre}
 use Rattle.dispatcher.specs.Input.{InputIs}
 use Rattle.dispatcher.specs.Knows.{Kept, KeyingIs, KeptStandsFor}
 use Rattle.dispatcher.specs.Staying.{delivery_of}
-use Rattle.dispatcher.specs.ReadLaws.{SameBut, RoomLaw, ReleaseLaw, AnrsGoLaw}
+use Rattle.dispatcher.specs.ReadLaws.{SameBut, RoomLaw, ReleaseLaw, EachGoLaw, AnrsGoLaw}
 use Rattle.dispatcher.proofs.Laws.Slices.{channel_set, set_as_many, index-map}
 
 -- what is kept of a channel does not depend on its room
@@ -36,7 +36,7 @@ abbrev pub bare_input : Tracked → Tracked
 bare_input i = record i { spare = 0 }
 
 -- the same channels but for their room
-same_channel : (t u : Table) (c : ℕ) → but_for_room u ≡ but_for_room t → bare_channel (channel_of u c) ≡ bare_channel (channel_of t c)
+pub same_channel : (t u : Table) (c : ℕ) → but_for_room u ≡ but_for_room t → bare_channel (channel_of u c) ≡ bare_channel (channel_of t c)
 same_channel t u c e =
     sym (index-map bare_channel u.channels (c - 1) (opened_with 0))
     ∙ ap (λ x. slice_index_or x.channels (c - 1) (opened_with 0)) e
@@ -120,6 +120,19 @@ release_law ds es k later t u c gone s same e g h from to keeps becomes =
         → (x : Bool) → (b == c) ≡ x → Holds es b (cond x gone (channel_of t b))
     by_number es t c gone b is keeps low high true q = subst (λ v. Holds es v gone) (sym (eqb-true b c q)) keeps
     by_number es t c gone b is keeps low high false q = is.keeps b low high
+
+pub each_go_law : EachGoLaw
+each_go_law ds es k later t u s same e g h count live able named each =
+    let is : DeliveryIs es (delivery_of t) = subst (DeliveryIs es) e s.knows.delivery in
+    let delivery : DeliveryIs es (delivery_of u) =
+    record {
+      count_is = count ∙ is.count_is;
+      keeps = λ c low high. let to : c ≤ opened t = subst (λ n. c ≤ n) count high in each c low to (is.keeps c low to);
+      live_is = ap mask_has live ∙ is.live_is;
+      able_is = ap mask_has able ∙ is.able_is;
+      noted_is = subst (NotedIs (anrs es)) (sym named) is.noted_is;
+    } in
+    same_knows ds es k later s same (subst (DeliveryIs es) (sym g) delivery) (λ w y. subst (λ f. InputIs ds es w (f w)) (sym h) (s.knows.inputs w y))
 
 pub anrs_go_law : AnrsGoLaw
 anrs_go_law ds es k later t u s same e g h becomes =

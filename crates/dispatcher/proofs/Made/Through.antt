@@ -28,7 +28,7 @@ use Rattle.dispatcher.proofs.Made.Notifying.{accepted_on}
 use Rattle.dispatcher.proofs.Laws.Stepped.{dispatched_on, other_pumps}
 
 -- the queue between the two steps
-abbrev queue_between : (now : ℕ) → Args → (k later : Queue) → Queue
+abbrev pub queue_between : (now : ℕ) → Args → (k later : Queue) → Queue
 queue_between now a k later = record k { clock = max now k.clock; place = suc k.place; waiting = a ∷ []; down = later.down }
 
 pub none_waits : (ws : List Args) → slice_get ws 0 ≡ None → ws ≡ []
@@ -36,7 +36,7 @@ none_waits [] e = refl
 none_waits (w ∷ ws) e = absurd (cc e)
 
 -- after the second step it is the later one
-passes_is : (now : ℕ) (a : Args) (c : Change) (k later : Queue) → Passes now c k later → k.waiting ≡ []
+pub passes_is : (now : ℕ) (a : Args) (c : Change) (k later : Queue) → Passes now c k later → k.waiting ≡ []
     → with_pumps (k.pumps - 1) (dispatched now (queue_between now a k later)) ≡ later
 passes_is now a c k later p none =
     let raised : max now (max now k.clock) ≡ max now k.clock = omega arith in

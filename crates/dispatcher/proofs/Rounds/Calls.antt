@@ -7,9 +7,11 @@ use Rattle.input_types.specs.declared.motion.Motion.{Motion}
 use Rattle.input_types.specs.Displays.{device_display}
 use Rattle.window_snapshot.specs.Mask.{mask_has}
 use Rattle.window_snapshot.specs.Named.{is_shown_on}
+use Rattle.window_snapshot.specs.Walls.{reaches}
 use Rattle.window_snapshot.proofs.Masks.{mask_has-zero}
 use Rattle.focus_resolver.specs.Resolver.{FocusState, target_of, focus_of, is_focused, is_at}
 use Rattle.key_repeat.specs.Due.{due_of}
+use Rattle.dispatcher.specs.RoundLaws.{reach_on}
 use Rattle.dispatcher.specs.KeyTables.Held.{target_sent}
 use Rattle.routing_rules.specs.Scene.{Scene, Moves}
 use Rattle.routing_rules.specs.Given.{changed, mark as rule_mark}
@@ -133,10 +135,10 @@ pub motion_pumps : (old new : Routing) (place clock : ℕ) (m : Motion) (r : Rou
     → IsOf by (Some m) (target_number old.focus) [] 0 0 r
     → CarriesFrom r place clock old new
     → ((c : ℕ) → mask_has reach c ≡ (mask_has old.channels.live c && is_shown_on old.shown.windows (device_display old.displays m.device) c))
-    → ((s : Scene) → Stands s old.touches → Sees s old.shown.windows reach old.channels.able m.device → IsMark old.touches by (rule_mark s (Moves m)))
-    → ((s : Scene) → Sees s old.shown.windows reach old.channels.able m.device → (w : ℕ) → mask_has r.watchers w ≡ is_watching s m (changed m) w)
+    → ((s : Scene) → Stands s old.touches → Sees s old.shown.windows (reach_on reach (device_display old.displays m.device)) old.channels.able m.device → IsMark old.touches by (rule_mark s (Moves m)))
+    → ((s : Scene) → Sees s old.shown.windows (reach_on reach (device_display old.displays m.device)) old.channels.able m.device → (w : ℕ) → mask_has r.watchers w ≡ is_watching s m (changed m) w)
     → IsWhole by
-    → ((s : Scene) → s.windows ≡ old.shown.windows → s.reach m.device ≡ mask_has reach → IsGiftOf s by m r.gift)
+    → ((s : Scene) → s.windows ≡ old.shown.windows → s.reach m.device ≡ reaches (reach_on reach (device_display old.displays m.device)) → IsGiftOf s by m r.gift)
     → Pumps (Some (MotionArgs m)) Dispatched place clock old new
 motion_pumps old new place clock m r by reach is from reaches marks watches whole found =
     record {

@@ -9,6 +9,7 @@ use Rattle.input_types.specs.declared.motion.MotionAction.TheVariants.{Down, Mov
 use Rattle.input_types.specs.declared.pointer.Pointer.{Pointer}
 use Rattle.window_snapshot.specs.Mask.{is_channel, mask_has}
 use Rattle.window_snapshot.specs.Named.{is_shown_on}
+use Rattle.window_snapshot.specs.Walls.{reaches}
 use Rattle.routing_rules.specs.Choice.{takers}
 use Rattle.routing_rules.specs.Cover.{Cover}
 use Rattle.routing_rules.specs.Given.{changed, pairs, slips_in, given_by, given, cover_at, cover_by, mark}
@@ -30,6 +31,7 @@ use Rattle.dispatcher.specs.WindowCovers.Covers.{IsGiftOf, option_at}
 use Rattle.dispatcher.specs.Covering.{IsGiftIn, IsGiftAt}
 use Rattle.dispatcher.specs.Knows.{Kept, KeptStandsFor}
 use Rattle.dispatcher.specs.Pointing.{step_at}
+use Rattle.dispatcher.specs.RoundLaws.{reach_on}
 use Rattle.dispatcher.proofs.Laws.Stepping.{sees_law}
 
 -- ---- what a motion gives is of its device, and of a pointer
@@ -144,7 +146,7 @@ pub motion_gift : (ds : List ℕ) (now : ℕ) (es : List Effect) (k : Kept) (m :
     → KeptStandsFor ds es k
     → ((c : ℕ) → mask_has reach c ≡ (mask_has k.delivery.live c && is_shown_on k.shown.windows (device_display ds m.device) c))
     → IsStepIn (scene ds es) k.touches by (Some m) watchers (step_at (Pump now) Dispatched es) → IsWhole by
-    → ((s : Scene) → s.windows ≡ k.shown.windows → s.reach m.device ≡ mask_has reach → IsGiftOf s by m gift)
+    → ((s : Scene) → s.windows ≡ k.shown.windows → s.reach m.device ≡ reaches (reach_on reach (device_display ds m.device)) → IsGiftOf s by m gift)
     → IsGiftAt ds (Pump now) Dispatched es gift
 motion_gift ds now es k m by watchers reach gift stands reaches is whole found =
     let s = scene ds es in

@@ -3,7 +3,7 @@ use Rattle.std.specs.Prelude.{◌≡◌, ℕ, ◌+◌, ◌-◌, ◌≤◌, ◌<�
 use Rattle.input_types.specs.declared.axis.Pixel.{Pixel}
 use Rattle.input_types.specs.declared.message.Body.{Body}
 use Rattle.dispatcher.specs.InputChannel.Order.{NoneAfter}
-use Rattle.dispatcher.specs.InputChannel.State.{ChannelState, opened_with, with_spare, enqueued, published_at, finished_with, has_late}
+use Rattle.dispatcher.specs.InputChannel.State.{ChannelState, opened_with, with_spare, enqueued, each_released, published_at, finished_with, has_late}
 use Rattle.dispatcher.specs.CancelSynthesis.Tracked.{Tracked, Tracks, pointers_of}
 use Rattle.dispatch_calls.specs.declared.counts.Counts.{Counts}
 use Rattle.window_snapshot.specs.Mask.{mask_has, mask_with}
@@ -47,6 +47,16 @@ OpensOrNot limit (Some number) old new = Opens limit number old new
 -- tracked
 pub record Sends (channel : ℕ) (body : Body) (origin : Pixel) (clock : ℕ) (old new : Table) : Type 0 where
   pub channels_are : new.channels ≡ slice_set old.channels (channel - 1) (enqueued (body_from origin body) clock (channel_of old channel))
+  pub inputs_are : new.inputs ≡ slice_set old.inputs (channel - 1) (input_of new channel)
+  pub tracks : Tracks (input_of old channel) (input_of new channel) body
+  pub live_is : new.live ≡ old.live
+  pub able_is : new.able ≡ old.able
+  pub anrs_are : new.anrs ≡ old.anrs
+
+-- the same of a channel that releases the message at once
+pub record SendsPast (channel : ℕ) (body : Body) (origin : Pixel) (clock : ℕ) (old new : Table) : Type 0 where
+  pub channels_are :
+      new.channels ≡ slice_set old.channels (channel - 1) (each_released (enqueued (body_from origin body) clock (channel_of old channel)))
   pub inputs_are : new.inputs ≡ slice_set old.inputs (channel - 1) (input_of new channel)
   pub tracks : Tracks (input_of old channel) (input_of new channel) body
   pub live_is : new.live ≡ old.live

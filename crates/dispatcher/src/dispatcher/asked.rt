@@ -3,6 +3,7 @@
 ghost use Rattle.std.specs.Prelude.{◌≡◌, ℕ, List, option_map, slice_get};
 ghost use Rattle.std.specs.Option.{option_copied};
 ghost use Rattle.window_snapshot.specs.Mask.{mask_has};
+ghost use Rattle.window_snapshot.specs.Walls.{reaches};
 ghost use Rattle.key_repeat.specs.Due.{next_of};
 ghost use Rattle.dispatch_history.specs.Delivery.{able};
 ghost use Rattle.dispatch_history.specs.Effect.{Effect, past_of};
@@ -15,7 +16,7 @@ ghost use Rattle.dispatcher.specs.Dispatching.{IsAfter};
 
 use crate::dispatcher::Dispatcher;
 use input_types::{Args, DeviceId, DisplayId, Displays, KeyMsg, Moment};
-use window_snapshot::Snapshot;
+use window_snapshot::{Reach, Snapshot};
 
 impl Dispatcher {
     /// The args that are dispatched next; None exactly if none wait.
@@ -33,15 +34,18 @@ impl Dispatcher {
         self.tables.routing.shown.windows()
     }
 
-    /// The mask of the channels that a motion of a device can reach: those that are live and have a window on its
-    /// display.
-    pub fn reach(&self, device: DeviceId) -> u64
+    /// What a motion of a device can reach: the channels that are live and have a window on its display, and the walls
+    /// of that display.
+    pub fn reach(&self, device: DeviceId) -> Reach
         ensures { (es : List Effect) → IsAfter es self.now → (c : ℕ)
-            → mask_has result c ≡ reach self.now.displays es device c }
+            → reaches result c ≡ reach self.now.displays es device c }
     {
         let routing = &self.tables.routing;
-        let shown = routing.shown.windows().on(routing.displays.of(device));
-        routing.channels.live() & shown
+        let display = routing.displays.of(device);
+        Reach {
+            channels: routing.channels.live() & routing.shown.windows().on(display),
+            display,
+        }
     }
 
     /// The mask of the channels that are able to take input: live, and not unresponsive.

@@ -90,7 +90,7 @@ fn refusal(pointers: u32, key_down: bool) -> Outcome
 
 /// The pointers of args have rising ids, as those of every motion. It does nothing; a call of it brings this fact,
 /// which contracts cannot see from the list alone.
-fn rises(now: Moment, args: &Args)
+pub(crate) fn rises(now: Moment, args: &Args)
     ensures { RisesIn (Notify now args.now) }
 {
     if let Args::Motion(motion) = args {

@@ -6,7 +6,9 @@ ghost use Rattle.dispatcher.specs.InputChannel.Order.{NoneAfter};
 ghost use Rattle.dispatcher.specs.InputChannel.State.{IsChannel, opened_with, sent, enqueued, with_spare, published_at};
 ghost use Rattle.dispatcher.specs.InputChannel.State.{next_of, received_one, received_next, passed, may_finish, finished_with};
 ghost use Rattle.dispatcher.specs.InputChannel.Moves.{moves_from};
-ghost use Rattle.dispatcher.specs.InputChannel.State.{release_of, each_released, all_released, oldest_of, has_late};
+ghost use Rattle.dispatcher.specs.InputChannel.State.{oldest_of, has_late};
+
+mod releasing;
 
 use crate::input_channel::kept::Kept;
 use crate::input_channel::unfinished::{MOST, Unfinished, deliver, place_of};
@@ -271,30 +273,5 @@ impl Channel {
             Some(oldest) => oldest.delivery.get() + self.limit.get() <= clock.get(),
             None => false,
         }
-    }
-
-    /// Releases the messages that were received. Their numbers stay in use.
-    pub fn release(&mut self)
-        ensures { self.new ≡ release_of self.old }
-    {
-        let count = self.received.saturating_sub(self.kept.gone());
-        self.kept.release(count as usize);
-    }
-
-    /// Releases all messages, received or not. A reader ahead of the owner calls it once it has read them. Their
-    /// numbers stay in use, and the room for more stays. The owner is handed none of them any more, but `pass` goes on
-    /// counting.
-    pub fn let_each_go(&mut self)
-        ensures { self.new ≡ each_released self.old }
-    {
-        self.kept.let_each_go();
-    }
-
-    /// Releases all messages, received or not, and gives back their memory. Their numbers stay in use, and the owner is
-    /// handed none of them any more.
-    pub fn let_all_go(&mut self)
-        ensures { self.new ≡ all_released self.old }
-    {
-        self.kept.let_all_go();
     }
 }

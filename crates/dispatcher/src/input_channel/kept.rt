@@ -1,5 +1,6 @@
 //! The messages of a channel that were not released.
 ghost use Rattle.std.specs.Prelude.{◌≡◌, ◌+◌, ◌≤◌, ◌<◌, ◌^◌, ℕ, [], IsOk, OnErr, OnOk, drop, length, vec_len, vec_capacity};
+ghost use Rattle.input_types.specs.declared.message.Body.{Body as BodyView};
 ghost use Rattle.input_types.specs.declared.message.Body.TheVariants.{Key as KeyBody};
 ghost use Rattle.dispatcher.specs.InputChannel.Kept.{sent_in, kept_with, kept_after, kept_empty, kept_none, kept_with_spare};
 ghost use Rattle.dispatcher.specs.InputChannel.Moves.{moves_from};
@@ -148,6 +149,16 @@ impl Kept {
         let seq = self.gone + (self.list.len() - self.dropped) as u64 + 1;
         let body = Body::Key(copy_of(message));
         self.list.push_reserved(Message { seq, moment, body });
+        self.spare -= 1;
+    }
+
+    /// Counts a message with the next number, and releases it at once. No other may be kept.
+    pub(crate) fn count_past(&mut self)
+        requires none { self.old.messages ≡ [] }
+        requires room { 1 ≤ self.old.spare }
+        ensures { (body : BodyView) (moment : ℕ) → self.new ≡ kept_empty (kept_with body moment self.old) }
+    {
+        self.gone += 1;
         self.spare -= 1;
     }
 

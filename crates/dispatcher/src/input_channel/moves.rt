@@ -22,7 +22,8 @@ pub fn list_from(listed: &mut Pointers, pointers: &Pointers, origin: Pixel)
 }
 
 /// A coordinate counted from an origin, saturated at the ends of its type.
-fn place_from(origin: Pixel, at: Pixel) -> Pixel
+#[inline(always)]
+pub fn place_from(origin: Pixel, at: Pixel) -> Pixel
     ensures { result ≡ place_from origin at }
 {
     Pixel {

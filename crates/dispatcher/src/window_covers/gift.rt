@@ -1,12 +1,12 @@
 //! What lies over the windows that a motion gives a pointer.
 ghost use Rattle.std.specs.Prelude.{◌≡◌, ◌==◌, None};
-ghost use Rattle.window_snapshot.specs.Mask.{mask_has};
+ghost use Rattle.window_snapshot.specs.Walls.{reaches};
 ghost use Rattle.routing_rules.specs.Scene.{Scene};
 ghost use Rattle.dispatcher.specs.WindowCovers.Covers.{IsFound, IsGiftOf};
 
 use input_types::{DeviceId, Motion, Pixel};
 use route_split::{Mark, given_windows};
-use window_snapshot::{Snapshot, mask_less};
+use window_snapshot::{Reach, Snapshot, mask_less};
 
 /// The windows that are given a pointer of a device, and which of them a window of another owner obscures there. Of the
 /// others, those that some window of another owner overlaps.
@@ -19,10 +19,10 @@ pub struct Gift {
 }
 
 /// What lies over these windows at a position.
-fn found(device: DeviceId, windows: u64, at: Pixel, shown: &Snapshot, reach: u64) -> Gift
+fn found(device: DeviceId, windows: u64, at: Pixel, shown: &Snapshot, reach: &Reach) -> Gift
     ensures device { result.device ≡ device }
     ensures windows { result.windows ≡ windows }
-    ensures found { (s : Scene) → s.windows ≡ shown.now → s.reach device ≡ mask_has reach → IsFound s at result }
+    ensures found { (s : Scene) → s.windows ≡ shown.now → s.reach device ≡ reaches reach.now → IsFound s at result }
 {
     let obscured = shown.obscured(at.x, at.y, reach, windows);
     let partly = shown.overlapped(reach, mask_less(windows, obscured));
@@ -34,10 +34,10 @@ fn found(device: DeviceId, windows: u64, at: Pixel, shown: &Snapshot, reach: u64
     }
 }
 
-/// What lies over the windows to which a motion with this mark gives its pointer; None if it gives nothing. The mask
-/// has the channels that the device can reach.
-pub fn gift_of(mark: &Mark, motion: &Motion, shown: &Snapshot, reach: u64) -> Option<Gift>
-    ensures { (s : Scene) → s.windows ≡ shown.now → s.reach motion.now.device ≡ mask_has reach
+/// What lies over the windows to which a motion with this mark gives its pointer; None if it gives nothing. `reach`
+/// says which windows the device can reach.
+pub fn gift_of(mark: &Mark, motion: &Motion, shown: &Snapshot, reach: &Reach) -> Option<Gift>
+    ensures { (s : Scene) → s.windows ≡ shown.now → s.reach motion.now.device ≡ reaches reach.now
         → IsGiftOf s mark.now motion.now result }
 {
     let windows = given_windows(mark, motion.device);

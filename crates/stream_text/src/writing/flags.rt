@@ -1,9 +1,10 @@
 //! The words of flags.
 ghost use Rattle.std.specs.Prelude.{◌≡◌, ◌+◌, ◌≤◌, ◌++◌, length, drop};
+ghost use Rattle.input_types.specs.Gestures.{unmarked};
 ghost use Rattle.stream_text.specs.Spelling.{canceled, flag_words, has_flag, word_if};
 
 use crate::writing::prepend::{Room, prepend_word};
-use input_types::{FLAG_CANCELED, FLAG_OBSCURED, FLAG_PARTLY_OBSCURED, Motion};
+use input_types::{FLAG_CANCELED, FLAG_OBSCURED, FLAG_PARTLY_OBSCURED};
 
 /// Writes ` canceled` in front of `end` if the flags are `FLAG_CANCELED`, and returns where it begins.
 pub(crate) fn prepend_canceled(line: &mut Room, end: usize, flags: u32) -> usize
@@ -38,15 +39,35 @@ fn has_flag(flag: u32, flags: u32) -> bool
     flags & flag != 0
 }
 
+/// Flags without the marks.
+fn unmarked(flags: u32) -> u32
+    ensures { result ≡ unmarked flags }
+{
+    flags & !(FLAG_OBSCURED | FLAG_PARTLY_OBSCURED)
+}
+
 /// Writes the words of a motion's flags in front of `end`, and returns where they begin.
 #[tactic(auto, unfolding(crate::specs::Spelling::flag_words))]
-pub(crate) fn prepend_flags(line: &mut Room, end: usize, motion: &Motion) -> usize
+pub(crate) fn prepend_flags(line: &mut Room, end: usize, flags: u32) -> usize
     requires { (25 ≤ end) × (end ≤ 1280) }
     ensures within { (result ≤ end) × (end ≤ result + 25) }
-    ensures written { drop result line.new ≡ flag_words motion.now.flags ++ drop end line.old }
+    ensures written { drop result line.new ≡ flag_words flags ++ drop end line.old }
 {
-    let flags = motion.flags;
     let at = prepend_mark(line, end, " partly", has_flag(FLAG_PARTLY_OBSCURED, flags));
     let at = prepend_mark(line, at, " obscured", has_flag(FLAG_OBSCURED, flags));
-    prepend_canceled(line, at, motion.unmarked())
+    prepend_canceled(line, at, unmarked(flags))
+}
+
+/// The same. Most motions have no flags, so test that first, outside the call.
+#[inline(always)]
+#[tactic(auto, unfolding(crate::specs::Spelling::flag_words))]
+pub(crate) fn prepend_any_flags(line: &mut Room, end: usize, flags: u32) -> usize
+    requires { (25 ≤ end) × (end ≤ 1280) }
+    ensures within { (result ≤ end) × (end ≤ result + 25) }
+    ensures written { drop result line.new ≡ flag_words flags ++ drop end line.old }
+{
+    if flags == 0 {
+        return end;
+    }
+    prepend_flags(line, end, flags)
 }

@@ -1,10 +1,13 @@
 //! The pointers of a motion, which are often those of the motion before.
-ghost use Rattle.std.specs.Prelude.{◌≡◌, ◌+◌, ◌*◌, ◌≤◌, ◌++◌, [], IsTrue, length, drop};
+ghost use Rattle.std.specs.Prelude.{◌≡◌, ◌+◌, ◌*◌, ◌<◌, ◌≤◌, ◌++◌, [], true, IsTrue, length, drop, get_or, map, slice_set};
+ghost use Rattle.input_types.specs.Pointers.{unused};
+ghost use Rattle.dispatcher.specs.InputChannel.Moves.{counted_from};
 ghost use Rattle.stream_text.specs.KeptText.{Holds};
 ghost use Rattle.stream_text.specs.Spelling.{pointer, pointers};
 
 use crate::writing::prepend::{ROOM, Room, prepend_number, prepend_signed, prepend_word};
-use input_types::{Pointer, Pointers};
+use dispatcher::input_channel::place_from;
+use input_types::{DeviceId, Pixel, Pointer, Pointers};
 
 /// The pointers whose text stands at the end of the place, in front of a newline.
 #[derive(Drop)]
@@ -12,8 +15,9 @@ pub(crate) struct KeptPointers {
     pub(crate) list: Pointers,
     /// Where their text begins.
     pub(crate) at: usize,
-    /// The device whose Move with flags 0 stands there with them, or 0 where no such Move does.
+    /// The device whose Move with these flags stands there with them, or 0 where no such Move does.
     pub(crate) moves: u8,
+    pub(crate) flags: u32,
     /// Where the text of that Move begins.
     pub(crate) front: usize,
 }
@@ -67,6 +71,55 @@ fn are_same(old: &[Pointer], list: &[Pointer]) -> bool
     true
 }
 
+/// Whether two lists of pointers have the same ids.
+#[inline(always)]
+fn have_ids(old: &[Pointer], list: &[Pointer]) -> bool
+    ensures { IsTrue result → map (λ p. p.id) old.now ≡ map (λ p. p.id) list.now }
+{
+    if old.len() != list.len() {
+        return false;
+    }
+    let mut left = list.len();
+    while left > 0 {
+        left -= 1;
+        if old[left].id != list[left].id {
+            return false;
+        }
+    }
+    true
+}
+
+/// Moves a kept pointer to a position, and returns whether it was there already.
+#[inline(always)]
+fn move_one(kept: &mut Pointers, i: usize, at: Pixel) -> bool
+    requires { i < length kept.old }
+    ensures list { kept.new ≡ slice_set kept.old i (record { id = (get_or kept.old i unused).id; at = at }) }
+    ensures same { result ≡ true → kept.new ≡ kept.old }
+{
+    if kept.as_slice()[i].at == at {
+        return true;
+    }
+    kept.move_to(i, at);
+    false
+}
+
+/// Moves kept pointers to the positions of a list with the same ids, counted from an origin, and returns whether all
+/// were there already.
+#[inline(always)]
+fn move_all(kept: &mut Pointers, list: &[Pointer], origin: Pixel) -> bool
+    requires { map (λ p. p.id) kept.old ≡ map (λ p. p.id) list.now }
+    ensures list { kept.new ≡ counted_from origin list.now }
+    ensures same { result ≡ true → kept.new ≡ kept.old }
+{
+    let mut same = true;
+    for i in 0..list.len() {
+        let at = place_from(origin, list[i].at);
+        let stays = move_one(kept, i, at);
+        same = same && stays;
+    }
+    same
+}
+
 impl KeptPointers {
     /// No pointers, and where the newline stands.
     pub(crate) fn none() -> KeptPointers
@@ -78,6 +131,7 @@ impl KeptPointers {
             list: Pointers::empty(),
             at: ROOM - 1,
             moves: 0,
+            flags: 0,
             front: 0,
         }
     }
@@ -101,6 +155,14 @@ impl KeptPointers {
         are_same(self.list.as_slice(), list.as_slice())
     }
 
+    /// Whether a Move of this device with these flags stands there.
+    #[inline(always)]
+    pub(crate) fn is_move(&self, device: DeviceId, flags: u32) -> bool
+        ensures { IsTrue result → (self.now.moves ≡ device) × (self.now.flags ≡ flags) × (1 ≤ self.now.moves) }
+    {
+        self.moves == device.get() && self.flags == flags
+    }
+
     /// Writes pointers and the newline at the end of the buffer, and returns where they begin.
     #[inline(always)]
     pub(crate) fn put_anew(&mut self, line: &mut Room, list: &Pointers) -> usize
@@ -112,6 +174,34 @@ impl KeptPointers {
         let at = prepend_word(line, ROOM, "\n");
         let at = prepend_pointers(line, at, list.as_slice());
         self.list = *list;
+        self.at = at;
+        at
+    }
+
+    /// Keeps these pointers with their positions counted from an origin, and returns whether they were kept already.
+    #[inline(always)]
+    pub(crate) fn set_from(&mut self, list: &Pointers, origin: Pixel) -> bool
+        ensures list { self.new.list ≡ counted_from origin list.now }
+        ensures same { result ≡ true → self.new ≡ self.old }
+        ensures but_for_list { self.new ≡ record self.old { list = self.new.list } }
+    {
+        if !have_ids(self.list.as_slice(), list.as_slice()) {
+            self.list = *list;
+            move_all(&mut self.list, list.as_slice(), origin);
+            return false;
+        }
+        move_all(&mut self.list, list.as_slice(), origin)
+    }
+
+    /// Writes the kept pointers and the newline at the end of the buffer, and returns where they begin.
+    #[inline(always)]
+    pub(crate) fn put_again(&mut self, line: &mut Room) -> usize
+        ensures at { result ≡ self.new.at }
+        ensures but_for_at { self.new ≡ record self.old { at = self.new.at } }
+        ensures holds { Holds line.new self.new.list self.new.at }
+    {
+        let at = prepend_word(line, ROOM, "\n");
+        let at = prepend_pointers(line, at, self.list.as_slice());
         self.at = at;
         at
     }

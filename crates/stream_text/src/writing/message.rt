@@ -1,14 +1,15 @@
 //! Messages as lines.
 ghost use Rattle.std.specs.Prelude.{◌≡◌, ◌≤◌, [], ◌∷◌, ◌++◌, length, drop, IfOk, OnOk, OnErr};
 ghost use Rattle.stream_text.specs.Spelling.{body, message_line, message_lines, numbered};
+ghost use Rattle.dispatcher.specs.InputChannel.Moves.{moves_from};
 ghost use Rattle.stream_text.specs.KeptText.{Holds, Moves};
 
 use crate::writing::kept_digits::{Counted, Timed};
 use crate::writing::kept_pointers::KeptPointers;
 use crate::writing::key::prepend_key_message;
-use crate::writing::motion::{prepend_motion, prepend_move};
+use crate::writing::motion::{prepend_motion, prepend_move, prepend_moved};
 use crate::writing::prepend::{ROOM, Room, prepend_word};
-use input_types::{Body, Message, MotionAction};
+use input_types::{Body, DeviceId, Message, Moment, MotionAction, Pixel, Pointers};
 use std::alloc::AllocError;
 use std::marker::Model;
 
@@ -39,15 +40,15 @@ fn prepend_body(line: &mut Room, kept: &mut KeptPointers, told: &Body) -> usize
 #[inline(always)]
 fn prepend_end(line: &mut Room, kept: &mut KeptPointers, told: &Body) -> usize
     requires holds { Holds line.old kept.old.list kept.old.at }
-    requires moves { Moves 134 line.old kept.old.moves kept.old.list kept.old.at kept.old.front }
+    requires moves { Moves 134 line.old kept.old.moves kept.old.flags kept.old.list kept.old.at kept.old.front }
     ensures within { (134 ≤ result) × (result ≤ kept.new.at) }
     ensures holds { Holds line.new kept.new.list kept.new.at }
-    ensures moves { Moves result line.new kept.new.moves kept.new.list kept.new.at kept.new.front }
+    ensures moves { Moves result line.new kept.new.moves kept.new.flags kept.new.list kept.new.at kept.new.front }
     ensures written { drop result line.new ≡ body told.now ++ 10 ∷ [] }
     ensures long { length line.new ≡ 1280 }
 {
     if let Body::Motion(motion) = told {
-        if motion.action == MotionAction::Move && motion.flags == 0 {
+        if motion.action == MotionAction::Move {
             return prepend_move(line, kept, motion);
         }
     }
@@ -62,17 +63,18 @@ fn prepend_numbered(
     moments: &mut Timed,
     numbers: &mut Counted,
     end: usize,
-    message: &Message,
+    seq: u64,
+    moment: Moment,
 ) -> usize
     requires { (134 ≤ end) × (end ≤ 1280) }
     ensures within { result ≤ end }
-    ensures written { drop result line.new ≡ numbered message.now.seq message.now.moment ++ drop end line.old }
+    ensures written { drop result line.new ≡ numbered seq moment ++ drop end line.old }
     ensures long { length line.new ≡ 1280 }
 {
     let at = prepend_word(line, end, " ");
-    let at = moments.prepend(line, at, message.moment.get());
+    let at = moments.prepend(line, at, moment.get());
     let at = prepend_word(line, at, " ");
-    numbers.prepend(line, at, message.seq)
+    numbers.prepend(line, at, seq)
 }
 
 /// Adds the lines of messages.
@@ -103,7 +105,7 @@ impl Model for LineWriter {
     ghost view = { λ _. tt };
 
     ghost invariant = { λ w. Holds w.line w.pointers.list w.pointers.at
-        × Moves 134 w.line w.pointers.moves w.pointers.list w.pointers.at w.pointers.front };
+        × Moves 134 w.line w.pointers.moves w.pointers.flags w.pointers.list w.pointers.at w.pointers.front };
 }
 
 impl LineWriter {
@@ -132,7 +134,44 @@ impl LineWriter {
             &mut self.moments,
             &mut self.numbers,
             at,
-            message,
+            message.seq,
+            message.moment,
+        );
+        out.extend_from_slice(self.line.as_slice().split_at(at).1)
+    }
+
+    /// Appends the line of a Move of these pointers of a device, with these flags and with their positions counted from
+    /// an origin. If memory runs out, `out` is as before.
+    #[inline(always)]
+    pub fn moves(
+        &mut self,
+        seq: u64,
+        moment: Moment,
+        device: DeviceId,
+        flags: u32,
+        pointers: &Pointers,
+        origin: Pixel,
+        out: &mut Vec<u8>,
+    ) -> Result<(), AllocError>
+        ensures ok { OnOk result (out.new.items ≡ out.old.items ++ message_line
+            (record { seq = seq; moment = moment; body = moves_from origin device flags pointers.now })) }
+        ensures err { OnErr result (out.new.items ≡ out.old.items) }
+    {
+        let at = prepend_moved(
+            &mut self.line,
+            &mut self.pointers,
+            device,
+            flags,
+            pointers,
+            origin,
+        );
+        let at = prepend_numbered(
+            &mut self.line,
+            &mut self.moments,
+            &mut self.numbers,
+            at,
+            seq,
+            moment,
         );
         out.extend_from_slice(self.line.as_slice().split_at(at).1)
     }

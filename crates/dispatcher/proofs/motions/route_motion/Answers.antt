@@ -11,7 +11,7 @@ returns-clause-ok c =
     (λ from.
     motion_sent old c.send.new.routing c.args.place c.args.clock c.args.motion.now _ c.mark_of-mark.result c.live.result c.on.result c.able-able.result
     c.windows-windows.result.now
-    c.of.result
+    c.of-display.result
     (record {
       mark_is = refl;
       motion_is = refl;
@@ -25,7 +25,7 @@ returns-clause-ok c =
     c.windows-windows.ensures
     c.live.ensures.value
     c.able-able.ensures.value
-    c.of.ensures
+    c.of-display.ensures
     c.on.ensures
     c.mark_of-mark.ensures.mark
     c.watchers.ensures

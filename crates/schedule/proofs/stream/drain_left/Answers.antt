@@ -1,5 +1,5 @@
 -- The messages that were not released come to the lines.
-use Rattle.std.proofs.Common.{◌≡◌, ◌∙◌, ◌-◌, Bool, true, List, cond, length, Some, None, drop, reverse, ap, subst, arith, length-drop}
+use Rattle.std.proofs.Common.{◌≡◌, ◌∙◌, Bool, true, List, cond, length, Some, None, drop, reverse, ap, subst, arith, length-drop}
 use Rattle.std.proofs.lemmas.List.{length-reverse}
 use Rattle.input_types.specs.declared.message.Message.{Message}
 use Rattle.dispatch_history.specs.Effect.{stream}

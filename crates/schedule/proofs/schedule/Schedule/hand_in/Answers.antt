@@ -3,7 +3,6 @@ use Rattle.std.proofs.Common.{refl, ◌∙◌}
 use Rattle.dispatch_calls.specs.declared.call.Call.TheVariants.{Notify, Pump}
 use Rattle.dispatch_history.specs.Legal.{answered}
 use Rattle.schedule.proofs.Going.{first_call, second_call, clock_twice, ready_again, on_ok_both}
-use Rattle.schedule.proofs.Released.{left_by, released_stay, silent_stream}
 use Rattle.schedule.proofs.Stepping.{lawful_of}
 use Rattle.schedule.proofs.schedule.Schedule.hand_in.Goals as goal
 
@@ -15,12 +14,7 @@ returns-clause-after c = λ how plan es r.
     let two = answered plan.displays (Pump t) one in
     let l = lawful_of how plan es _ r.has in
     let first = first_call plan.displays es (Notify t a) l r.caught refl in
-    let quiet =
-    released_stay es one c.args.self.now.dispatcher c.args.self.now.dispatcher (λ d. silent_stream plan.displays (Notify t a) es d l refl) (λ d low. refl)
-    r.all_released in
-    let left =
-    left_by plan.displays (Pump t) one c.args.self.now.dispatcher c.notify_and_pump.new.self.dispatcher first.lawful refl (λ d low. c.notify_and_pump.ensures.gone d low)
-    quiet in
+    let left = c.in_ok-notify_and_pump.ensures.keeps how plan es r in
     let both = c.in_ok-notify_and_pump.ensures.after how plan es r.has in
     on_ok_both c.receive_all.result _ _ _ (c.receive_all.ensures.after how plan two both) (c.receive_all.ensures.released how plan two both left)
     (λ all released.

@@ -5,4 +5,4 @@ pub returns-clause-moves : goal.returns-clause-moves
 returns-clause-moves c =
     let other = c.prepend_body in
     let kept = other.new.kept in
-    none_moves other.result kept.moves kept.at kept.front other.new.line kept.list other.ensures.moves
+    none_moves other.result kept.moves kept.flags kept.at kept.front other.new.line kept.list other.ensures.moves

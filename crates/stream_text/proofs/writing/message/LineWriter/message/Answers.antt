@@ -10,6 +10,6 @@ invariant_of-self c =
     let m = c.args.message.now in (
       still_held front.result body.result kept.at front.new.line body.new.line (numbered m.seq m.moment) kept.list front.ensures.long body.ensures.long
           front.ensures.within body.ensures.within.1 front.ensures.written body.ensures.holds,
-      still_moves 134 front.result body.result kept.at kept.front kept.moves front.new.line body.new.line (numbered m.seq m.moment) kept.list front.ensures.long body.ensures.long
+      still_moves 134 front.result body.result kept.at kept.front kept.moves kept.flags front.new.line body.new.line (numbered m.seq m.moment) kept.list front.ensures.long body.ensures.long
           body.ensures.within.0 front.ensures.within body.ensures.holds.1 front.ensures.written body.ensures.moves,
     )
