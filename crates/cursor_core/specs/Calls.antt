@@ -1,10 +1,12 @@
 -- What the calls of a cursor mean. Lists of calls are newest first; the tail is what came before a call.
-use Rattle.std.specs.Prelude.{ℕ, ℤ, pos, ◌+ℤ◌, ◌-◌, ◌/◌, max, nat_le, nat_lt, Bool, true, false, not, ◌==◌, ◌&&◌, ◌||◌, if◌then◌else◌, List, [], ◌∷◌, Option, None}
+use Rattle.std.specs.Prelude.{ℕ, ℤ, pos, ◌+ℤ◌, ◌-◌, ◌/◌, max, nat_le, nat_lt, Bool, true, false, not, ◌==◌, ◌&&◌, ◌||◌, if◌then◌else◌, List, [], ◌∷◌, Option, Some, None}
 use Rattle.std.specs.Int.{int_max, int_min}
 use Rattle.input_types.specs.declared.axis.Pixel.{Pixel}
 use Rattle.window_snapshot.specs.declared.window.Window.{Window}
 use Rattle.window_snapshot.specs.Hits.{touched}
+use Rattle.window_snapshot.specs.Mask.{is_channel}
 use Rattle.window_snapshot.specs.Named.{origin_of, is_shown_on}
+use Rattle.window_snapshot.specs.Walls.{wall_on}
 use Rattle.cursor_core.specs.declared.call.CursorCall.{CursorCall}
 use Rattle.cursor_core.specs.declared.call.CursorCall.TheVariants.{Moved, Windows, Remove}
 use Rattle.window_snapshot.specs.Origins.{corner, or_origin}
@@ -90,10 +92,16 @@ origin (call ∷ calls) w = origin_after call w (origin calls w)
 abbrev pub corner_of : List Window → ℕ → Pixel
 corner_of ws w = or_origin (origin_of ws w) corner
 
+-- the window of a channel; a wall is none
+abbrev pub channel_of : Option ℕ → Option ℕ
+channel_of None = None
+channel_of (Some c) = if is_channel c then Some c else None
+
 -- the hovered window: none before the mouse has moved, and then the one that a touch at the cursor would go to, of those that are live
--- and on display 0
+-- and on display 0; a wall there hides what is behind it
 abbrev pub hovered_by : Bool → List Window → (ℕ → Bool) → Pixel → Option ℕ
-hovered_by moved ws live at = if moved then touched ws (λ c. live c && is_shown_on ws 0 c) at.x at.y else None
+hovered_by moved ws live at =
+    if moved then channel_of (touched ws (λ c. live c && is_shown_on ws 0 c || c == wall_on 0) at.x at.y) else None
 
 -- the hovered window after these calls
 abbrev pub hovered : Screen → List CursorCall → Option ℕ

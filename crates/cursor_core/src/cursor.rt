@@ -5,9 +5,10 @@ ghost use Rattle.std.specs.Int.{int_max, int_min};
 ghost use Rattle.std.specs.Prelude.{pos};
 ghost use Rattle.window_snapshot.specs.Hits.{touched};
 ghost use Rattle.window_snapshot.specs.Mask.{mask_has};
+ghost use Rattle.window_snapshot.specs.Walls.{reaches};
 ghost use Rattle.cursor_core.specs.declared.call.CursorCall.{CursorCall as Call};
 ghost use Rattle.cursor_core.specs.declared.call.CursorCall.TheVariants.{Moved, Remove, Windows};
-ghost use Rattle.cursor_core.specs.Calls.{Screen, cursor, hovered_by};
+ghost use Rattle.cursor_core.specs.Calls.{Screen, channel_of, cursor, hovered_by};
 ghost use Rattle.cursor_core.specs.Cursor.{CursorStandsFor, stepped};
 ghost use Rattle.cursor_core.specs.Kept.{gone};
 ghost use Rattle.cursor_core.specs.Told.{stream, stream_of, IsInTurns};
@@ -20,7 +21,7 @@ use crate::stream::{Stream, left_of, release, streams};
 use input_types::{DisplayId, Moment, Pixel};
 use std::alloc::{AllocError, Global};
 use std::marker::Model;
-use window_snapshot::{Snapshot, mask_without};
+use window_snapshot::{Reach, Snapshot, is_channel, mask_without};
 
 /// A mouse cursor on display 0, and what the windows there were sent for it.
 ///
@@ -253,14 +254,29 @@ fn hovered_by(moved: bool, windows: &Snapshot, live: u64, at: Pixel) -> Option<u
     if !moved {
         return None;
     }
-    touched_at(windows, at, live & windows.on(DisplayId::zero()))
+    let display = DisplayId::zero();
+    let reach = Reach {
+        channels: live & windows.on(display),
+        display,
+    };
+    channel_of(touched_at(windows, at, &reach))
 }
 
-/// The window that a touch at a pixel would go to, among those of these channels.
-fn touched_at(windows: &Snapshot, at: Pixel, channels: u64) -> Option<u32>
-    ensures { result ≡ touched windows.now (mask_has channels) at.x at.y }
+/// The window that a touch at a pixel would go to, among those that it reaches.
+fn touched_at(windows: &Snapshot, at: Pixel, reach: &Reach) -> Option<u32>
+    ensures { result ≡ touched windows.now (reaches reach.now) at.x at.y }
 {
-    windows.touched(at.x, at.y, channels)
+    windows.touched(at.x, at.y, reach)
+}
+
+/// The channel of a window that is no wall.
+fn channel_of(window: Option<u32>) -> Option<u32>
+    ensures { result ≡ channel_of window }
+{
+    match window {
+        Some(channel) => { if is_channel(channel) { window } else { None } }
+        None => None,
+    }
 }
 
 /// The mask of the first channels.

@@ -1,10 +1,13 @@
 -- Parts of sessions, worked out from their tables.
-use Rattle.std.specs.Prelude.{ℕ, ◌≡◌, codes, pos, List, [], ◌∷◌, None, Ok, Err, refl}
+use Rattle.std.specs.Prelude.{ℕ, ◌+◌, ◌≡◌, codes, pos, Bool, true, false, List, [], ◌∷◌, None, Result, Ok, Err, refl}
 use Rattle.std.specs.Fmt.{digits}
-use Rattle.toml.specs.Data.{Data, string, integer, array, table, no_members, member}
+use Rattle.bitflags.specs.Sets.{find_row}
+use Rattle.toml.specs.Data.{Data, string, integer, boolean, array, table, no_members, member}
 use Rattle.toml.specs.View.{items_of}
 use Rattle.input_types.specs.declared.axis.Rotation.TheVariants.{R0, R90}
-use Rattle.session_plan.specs.declared.key.Place.TheVariants.{Device, Step as AtStep}
+use Rattle.window_snapshot.specs.declared.occlusion.Occlusion.TheVariants.{Block}
+use Rattle.window_snapshot.specs.declared.window.Window.{Window}
+use Rattle.session_plan.specs.declared.key.Place.TheVariants.{Device, Step as AtStep, Window as AtWindow}
 use Rattle.session_plan.specs.declared.plan.Act.TheVariants.{FocusOn}
 use Rattle.session_plan.specs.declared.plan.DeviceKind.TheVariants.{Touch, Keys}
 use Rattle.session_plan.specs.declared.plan.Step.{Step}
@@ -12,12 +15,17 @@ use Rattle.session_plan.specs.DeviceDisplays.{device_displays}
 use Rattle.session_plan.specs.Devices.{axis_at, touch_of}
 use Rattle.session_plan.specs.Display.{display_at, display_number, display_of, displays_of, extra_displays_of}
 use Rattle.session_plan.specs.ErrorLine.{line_of}
-use Rattle.session_plan.specs.Fault.{missing, wrong, unknown_name, out_of_range}
+use Rattle.session_plan.specs.Fault.{Fault, missing, wrong, unknown_name, out_of_range}
+use Rattle.session_plan.specs.Flags.{bits_at, bits_for, bits_of}
 use Rattle.session_plan.specs.Keys.{key_of}
 use Rattle.session_plan.specs.Order.{in_order}
+use Rattle.session_plan.specs.Plan.{ChannelData}
 use Rattle.session_plan.specs.Reading.{number, number_at, number_or, tables, tables_at, text_at}
+use Rattle.session_plan.specs.Rectangles.{rect_of, rectangle, region_at}
 use Rattle.session_plan.specs.Session.{plan_of}
 use Rattle.session_plan.specs.Steps.{act_of, focus_of, step_of, steps_of}
+use Rattle.session_plan.specs.Trust.{occlusion_at}
+use Rattle.session_plan.specs.Windows.{new_channel, no_channel, wall_at, window_of}
 
 -- width = .. and height = ..
 abbrev pub extent : ℕ → ℕ → Data
@@ -113,3 +121,62 @@ step at lane = record { at = at; lane = lane; act = FocusOn 0 None }
 
 pub agreeing_moments_keep_their_order : in_order (step 5 1 ∷ step 3 2 ∷ step 5 3 ∷ step 3 4 ∷ []) ≡ step 3 2 ∷ step 3 4 ∷ step 5 1 ∷ step 5 3 ∷ []
 agreeing_moments_keep_their_order = refl
+
+-- a window of nobody: frame = [0, 0, 1080, 1200], wall = .., and these keys before them, by name
+abbrev pub upper_half : Data
+upper_half = integers (integer (pos 0) ∷ integer (pos 0) ∷ integer (pos 1080) ∷ integer (pos 1200) ∷ [])
+
+abbrev pub wall_table : (wall : Bool) → Data
+wall_table wall = table (member (codes "frame") upper_half (member (codes "wall") (boolean wall) no_members))
+
+-- in a session with the channel `app` and two displays, as window 2 of step 3, behind a wall of display 1
+abbrev pub wall_of : ℕ → Window
+wall_of display = record {
+  channel = 65 + display;
+  display = display;
+  frame = record { left = pos 0; top = pos 0; right = pos 1080; bottom = pos 1200 };
+  region = record { left = pos 0; top = pos 0; right = pos 1080; bottom = pos 1200 } ∷ [];
+  flags = record { bits = 0 };
+  owner = 0;
+  opacity = 100;
+  occlusion = Block;
+}
+
+abbrev pub app : ChannelData
+app = record { name = codes "app"; limit = 5000000; finish_after = 0; finishes = true }
+
+abbrev pub read_window : Data → Result Window Fault
+read_window d = window_of (app ∷ []) 2 (AtWindow 3 2) (wall_of 1 ∷ []) d
+
+pub a_wall : read_window (wall_table true) ≡ Ok (wall_of 0)
+unfolding window_of wall_at no_channel display_number number_or region_at rect_of rectangle bits_for bits_at occlusion_at
+a_wall = refl
+
+-- display = 1 before the frame: a second wall of display 1
+pub a_second_wall
+    : read_window (table (member (codes "display") (integer (pos 1)) (member (codes "frame") upper_half (member (codes "wall") (boolean true) no_members))))
+    ≡ Ok (wall_of 1)
+unfolding window_of wall_at no_channel display_number number_or number region_at rect_of rectangle bits_for bits_at occlusion_at
+a_second_wall = refl
+
+-- wall = false is as no wall at all: the channel is missing
+pub no_wall : read_window (wall_table false) ≡ Err (missing (codes "step[3].windows[2].channel"))
+unfolding window_of wall_at new_channel text_at key_of digits
+no_wall = refl
+
+pub a_wall_with_a_channel
+    : read_window (table (member (codes "channel") (string (codes "app")) (member (codes "frame") upper_half (member (codes "wall") (boolean true) no_members))))
+    ≡ Err (wrong (codes "step[3].windows[2].channel"))
+unfolding window_of wall_at no_channel key_of digits
+a_wall_with_a_channel = refl
+
+pub a_wall_that_spies
+    : read_window (table (member (codes "flags") (array (items_of (string (codes "SPY") ∷ []))) (member (codes "frame") upper_half (member (codes "wall") (boolean true) no_members))))
+    ≡ Err (wrong (codes "step[3].windows[2].flags"))
+unfolding window_of wall_at no_channel display_number number_or region_at rect_of rectangle bits_for bits_at bits_of find_row key_of digits
+a_wall_that_spies = refl
+
+pub a_wall_by_number
+    : read_window (table (member (codes "frame") upper_half (member (codes "wall") (integer (pos 1)) no_members))) ≡ Err (wrong (codes "step[3].windows[2].wall"))
+unfolding window_of wall_at key_of digits
+a_wall_by_number = refl

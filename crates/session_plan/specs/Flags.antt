@@ -1,5 +1,5 @@
 -- The flags of a window.
-use Rattle.std.specs.Prelude.{ℕ, codes, bit_or, List, [], ◌∷◌, is_some, Result, Ok}
+use Rattle.std.specs.Prelude.{ℕ, codes, bit_and, bit_or, ◌==◌, ◌||◌, not, Bool, List, [], ◌∷◌, is_some, Result, Ok}
 use Rattle.std.specs.List.{list_all}
 use Rattle.bitflags.specs.Sets.{find_name}
 use Rattle.toml.specs.Data.{Data, get, as_str}
@@ -28,3 +28,14 @@ bits_of key d = do
 -- the bits of a window's flags, none where nothing stands there
 unfoldable pub bits_at : Place → Data → Result ℕ Fault
 bits_at place d = or_default 0 (get (codes "flags") d) (bits_of (key_of place (codes "flags")))
+
+-- a wall has none of the flags WATCH_OUTSIDE_TOUCH, SLIPPERY, SPY and PREVENT_SPLITTING, which are for windows that get touches
+abbrev pub fits_wall : ℕ → Bool
+fits_wall bits = bit_and bits 60 == 0
+
+-- the bits of a window's flags, which fit a wall where it is one
+unfoldable pub bits_for : Place → (wall : Bool) → Data → Result ℕ Fault
+bits_for place wall d = do
+  bits ← bits_at place d
+  fit ← needs (key_of place (codes "flags")) (not wall || fits_wall bits)
+  Ok bits

@@ -1,11 +1,11 @@
 //! The flags of a window.
-ghost use Rattle.std.specs.Prelude.{◌≡◌, map, option_map, is_some, bit_or};
+ghost use Rattle.std.specs.Prelude.{◌≡◌, ◌||◌, not, map, option_map, is_some, bit_or};
 ghost use Rattle.std.specs.List.{list_all};
 ghost use Rattle.toml.specs.Data.{as_str};
 ghost use Rattle.toml.specs.View.{view};
 ghost use Rattle.bitflags.specs.Sets.{find_name};
 ghost use Rattle.window_snapshot.specs.FlagTable.{flag_table};
-ghost use Rattle.session_plan.specs.Flags.{bits_at, bits_from, bits_of};
+ghost use Rattle.session_plan.specs.Flags.{bits_at, bits_for, bits_from, bits_of, fits_wall};
 ghost use Rattle.session_plan.specs.Gives.{Gives};
 ghost use Rattle.session_plan.specs.Keys.{key_of};
 
@@ -98,11 +98,37 @@ fn flags_in(alloc: Global, place: Place, key: &str, value: &Value) -> Result<Win
 
 /// The flags of the window of a table; none if it names none.
 #[tactic(auto, unfolding(crate::specs::Flags::bits_at))]
-pub(crate) fn flags(alloc: Global, place: Place, table: &Value) -> Result<WindowFlags, PlanError>
+fn flags_at(alloc: Global, place: Place, table: &Value) -> Result<WindowFlags, PlanError>
     ensures { Gives (λ f. f.bits) result (bits_at place (view table.now)) }
 {
     match table.get("flags") {
         Some(value) => flags_in(alloc, place, "flags", value),
         None => Ok(no_flags()),
     }
+}
+
+/// Whether a wall may have these flags: none of those that are for windows that get touches.
+fn fits_wall(flags: WindowFlags) -> bool
+    ensures { result ≡ fits_wall flags.bits }
+{
+    flags.bits() & 60 == 0
+}
+
+/// The flags of the window of a table, which fit a wall if it is one.
+#[tactic(auto, unfolding(crate::specs::Flags::bits_for))]
+pub(crate) fn flags(
+    alloc: Global,
+    place: Place,
+    wall: bool,
+    table: &Value,
+) -> Result<WindowFlags, PlanError>
+    ensures { Gives (λ f. f.bits) result (bits_for place wall (view table.now)) }
+{
+    let flags = flags_at(alloc, place, table)?;
+    if wall && !fits_wall(flags) {
+        return Err(PlanError::Wrong {
+            key: key_text(alloc, place, "flags")?,
+        });
+    }
+    Ok(flags)
 }

@@ -53,7 +53,8 @@
 //! | `step[k].lane` | integer, 1 | 1 to 8 |
 //! | `step[k].do` | text | `windows`, `focus`, `pilfer` or `remove` |
 //! | `step[k].windows` (windows) | array of tables, front to back | at most 64 |
-//! | `step[k].windows[j].channel` | text | the name of a channel that no earlier window of the step has |
+//! | `step[k].windows[j].wall` | truth value, false | |
+//! | `step[k].windows[j].channel` | text; absent if `wall` is true | the name of a channel that no earlier window of the step has |
 //! | `step[k].windows[j].display` | integer, 0 | 0 to the greatest display |
 //! | `step[k].windows[j].frame` | array of four integers: left, top, right, bottom | 32 bits each, in order |
 //! | `step[k].windows[j].region` | array of such arrays, the frame alone | at most 64 |
@@ -62,6 +63,10 @@
 //! | `step[k].channel` (focus) | text, no channel | the name of a channel |
 //! | `step[k].channel` (pilfer, remove) | text | the name of a channel |
 //! | `step[k].device` (pilfer) | integer | 1 to the number of devices |
+//!
+//! A window with `wall = true` is of nobody. It has the number of its display's walls in place of a channel, and a
+//! channel that it names is `Wrong`. So are its flags if SPY, WATCH_OUTSIDE_TOUCH, SLIPPERY or PREVENT_SPLITTING is
+//! among them.
 //!
 //! An array with an element of another kind is of another kind itself. Numbers of an array that are out of order are
 //! `Wrong`, even if they are also out of range.

@@ -1,7 +1,7 @@
 -- Worked examples: sessions that are written out, and the lines of the keys that nothing reads.
-use Rattle.std.specs.Prelude.{codes, ◌≡◌, pos, [], refl}
+use Rattle.std.specs.Prelude.{codes, ◌≡◌, pos, true, [], refl}
 use Rattle.std.specs.Fmt.{digits}
-use Rattle.toml.specs.Data.{Data, string, integer, array, table, no_items, item, no_members, member}
+use Rattle.toml.specs.Data.{Data, string, integer, boolean, array, table, no_items, item, no_members, member}
 use Rattle.unread_keys.specs.declared.place.Place.TheVariants.{Window}
 use Rattle.unread_keys.specs.declared.names.Kind.TheVariants as kinds
 use Rattle.unread_keys.specs.Session.{document_lines, table_lines, windows_lines}
@@ -25,6 +25,10 @@ window = table (member (codes "a key") (integer (pos 0)) (member (codes "channel
 window_keys : table_lines (Window 3 2) kinds.Window window ≡ codes "key step[3].windows[2].?\nkey step[3].windows[2].screen\n"
 unfolding digits
 window_keys = refl
+
+-- a wall, whose keys are all read
+wall_keys : table_lines (Window 1 1) kinds.Window (table (member (codes "display") (integer (pos 1)) (member (codes "wall") (boolean true) no_members))) ≡ []
+wall_keys = refl
 
 -- a step that asks for the focus has no windows, and what stands in them is not looked at
 focus_windows : windows_lines 1 (table (member (codes "do") (string (codes "focus")) (member (codes "windows") (array (item window no_items)) no_members))) ≡ []

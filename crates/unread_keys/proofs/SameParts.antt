@@ -1,11 +1,12 @@
 -- Displays, devices, channels and windows say the same without the keys that nothing reads.
-use Rattle.std.proofs.Common.{◌≡◌, ℕ, pos, ◌*◌, codes, ◌&&◌, ◌||◌, not, Bool, true, false, if◌then◌else◌, List, [], ◌∷◌, Option, Some, None, Result, Ok, refl, ap, ◌∙◌}
+use Rattle.std.proofs.Common.{◌≡◌, ℕ, pos, ◌*◌, codes, ◌&&◌, ◌||◌, not, Bool, true, false, if◌then◌else◌, List, [], ◌∷◌, Option, Some, None, is_some, unwrap_or, Result, Ok, refl, ap, ◌∙◌}
 use Rattle.std.specs.Str.{bytes_eq}
 use Rattle.toml.specs.Data.{Data, get, as_bool, as_str}
 use Rattle.input_types.specs.declared.axis.Rotation.TheVariants.{R0}
 use Rattle.window_snapshot.specs.declared.occlusion.Occlusion.TheVariants.{Block}
 use Rattle.window_snapshot.specs.declared.window.Window.{Window}
 use Rattle.window_snapshot.specs.Named.{is_named}
+use Rattle.window_snapshot.specs.Walls.{wall_on}
 use Rattle.session_plan.specs.declared.key.Place.{Place}
 use Rattle.session_plan.specs.declared.key.Place.TheVariants as place
 use Rattle.session_plan.specs.declared.plan.DeviceKind.TheVariants as device
@@ -15,13 +16,13 @@ use Rattle.session_plan.specs.Devices.{device_of, is_path, keys_of, touch_of, wi
 use Rattle.session_plan.specs.Devices as devices
 use Rattle.session_plan.specs.Display.{display_of, rotation_of}
 use Rattle.session_plan.specs.Fault.{Fault, ◌>>=◌}
-use Rattle.session_plan.specs.Flags.{bits_at, bits_of}
+use Rattle.session_plan.specs.Flags.{bits_at, bits_for, bits_of, fits_wall}
 use Rattle.session_plan.specs.Keys.{key_of}
 use Rattle.session_plan.specs.Plan.{ChannelData, DeviceData}
 use Rattle.session_plan.specs.Reading.{needs, of_kind, or_default, required, text_at}
 use Rattle.session_plan.specs.Rectangles.{rect_of, rects_of, region_at}
 use Rattle.session_plan.specs.Trust.{occlusion_at, occlusion_of}
-use Rattle.session_plan.specs.Windows.{window_of}
+use Rattle.session_plan.specs.Windows.{new_channel, no_channel, wall_at, window_channel, window_of}
 use Rattle.key_layout.specs.Layout.{layout_of}
 use Rattle.unread_keys.specs.declared.names.Kind.{Kind}
 use Rattle.unread_keys.specs.declared.names.Kind.TheVariants as kinds
@@ -54,24 +55,38 @@ channel_same k found d =
     or_default true (leaf kinds.Channel d (codes "finishes") refl i) (λ v. of_kind (key_of p (codes "finishes")) (as_bool v)) >>= λ finishes.
     Ok (record { name = name; limit = ms * 1000; finish_after = us; finishes = finishes })
 
-pub window_same : (channels : List ChannelData) (displays : ℕ) (p : Place) (found : List Window) (d : Data)
-    → window_of channels displays p found (pruned_window d) ≡ window_of channels displays p found d
-unfolding window_of region_at bits_at occlusion_at
-window_same channels displays p found d =
-    let e = pruned_window d in λ i.
-    text_at_same p (codes "channel") e d (leaf kinds.Window d (codes "channel") refl) i >>= λ name.
+-- the channel of a window is looked up at its key alone
+channel_read_same : (channels : List ChannelData) (p : Place) (found : List Window) (wall : Bool) (e d : Data) → get (codes "channel") e ≡ get (codes "channel") d
+    → window_channel channels p found wall e ≡ window_channel channels p found wall d
+unfolding no_channel new_channel
+channel_read_same channels p found true e d h = λ i.
+    needs (key_of p (codes "channel")) (not (is_some (h i))) >>= λ absent.
+    Ok None
+channel_read_same channels p found false e d h = λ i.
+    text_at_same p (codes "channel") e d h i >>= λ name.
     channel_named (key_of p (codes "channel")) channels name >>= λ channel.
     needs (key_of p (codes "channel")) (not (is_named found channel)) >>= λ new.
+    Ok (Some channel)
+
+pub window_same : (channels : List ChannelData) (displays : ℕ) (p : Place) (found : List Window) (d : Data)
+    → window_of channels displays p found (pruned_window d) ≡ window_of channels displays p found d
+unfolding window_of wall_at region_at bits_for bits_at occlusion_at
+window_same channels displays p found d =
+    let e = pruned_window d in λ i.
+    or_default false (leaf kinds.Window d (codes "wall") refl i) (λ v. of_kind (key_of p (codes "wall")) (as_bool v)) >>= λ wall.
+    channel_read_same channels p found wall e d (leaf kinds.Window d (codes "channel") refl) i >>= λ channel.
     display_number_same displays p e d (leaf kinds.Window d (codes "display") refl) i >>= λ display.
     required (key_of p (codes "frame")) (leaf kinds.Window d (codes "frame") refl i) >>= λ there.
     rect_of (key_of p (codes "frame")) there >>= λ frame.
     or_default (frame ∷ []) (leaf kinds.Window d (codes "region") refl i) (rects_of (key_of p (codes "region"))) >>= λ region.
-    or_default 0 (leaf kinds.Window d (codes "flags") refl i) (bits_of (key_of p (codes "flags"))) >>= λ bits.
+    (or_default 0 (leaf kinds.Window d (codes "flags") refl i) (bits_of (key_of p (codes "flags"))) >>= λ bits.
+    needs (key_of p (codes "flags")) (not wall || fits_wall bits) >>= λ fit.
+    Ok bits) >>= λ bits.
     number_or_same 0 p (codes "owner") (pos 0) (pos 4294967295) e d (leaf kinds.Window d (codes "owner") refl) i >>= λ owner.
     number_or_same 100 p (codes "opacity") (pos 0) (pos 100) e d (leaf kinds.Window d (codes "opacity") refl) i >>= λ opacity.
     or_default Block (leaf kinds.Window d (codes "occlusion") refl i) (occlusion_of (key_of p (codes "occlusion"))) >>= λ occlusion.
     Ok (record {
-      channel = channel;
+      channel = unwrap_or channel (wall_on display);
       display = display;
       frame = frame;
       region = region;

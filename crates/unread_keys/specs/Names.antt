@@ -22,7 +22,7 @@ names_of Focus = codes "at_us" ∷ codes "lane" ∷ codes "do" ∷ codes "displa
 names_of Pilfer = codes "at_us" ∷ codes "lane" ∷ codes "do" ∷ codes "channel" ∷ codes "device" ∷ []
 names_of Remove = codes "at_us" ∷ codes "lane" ∷ codes "do" ∷ codes "channel" ∷ []
 names_of Window =
-    codes "channel" ∷ codes "display" ∷ codes "frame" ∷ codes "region" ∷ codes "flags" ∷ codes "owner" ∷ codes "opacity" ∷ codes "occlusion" ∷ []
+    codes "wall" ∷ codes "channel" ∷ codes "display" ∷ codes "frame" ∷ codes "region" ∷ codes "flags" ∷ codes "owner" ∷ codes "opacity" ∷ codes "occlusion" ∷ []
 
 -- a key is read
 abbrev pub is_read : Kind → List ℕ → Bool

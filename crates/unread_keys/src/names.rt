@@ -46,6 +46,7 @@ pub(crate) fn is_read(kind: Kind, key: &str) -> bool
         Kind::Remove => is_one_of(&["at_us", "lane", "do", "channel"], key),
         Kind::Window => is_one_of(
             &[
+                "wall",
                 "channel",
                 "display",
                 "frame",

@@ -79,7 +79,7 @@ absorbs true r = refl
 absorbs false true = refl
 absorbs false false = refl
 
--- if only one device may have such a pointer, that is all that is sent
+-- if no other device sends a Down, one is sent exactly if this device is listed and sends one
 one_device : (f : ℕ → List Motion) (d : ℕ) (ds : List ℕ) → ((e : ℕ) → (e == d) ≡ false → sends_down (f e) ≡ false)
     → sends_down (flat_map f ds) ≡ (list_any (λ e. e == d) ds && sends_down (f d))
 one_device f d [] others = refl

@@ -6,7 +6,7 @@ use Rattle.std.proofs.lemmas.List.Elements.{filter-append}
 use Rattle.window_snapshot.specs.Mask.{is_channel}
 use Rattle.dispatch_history.specs.Effects.{channels}
 use Rattle.routing_rules.specs.declared.choice.Choice.{Choice}
-use Rattle.why_text.specs.Words.{channel_word, channels_that, row_word, set_word, windows_word}
+use Rattle.why_text.specs.Words.{channels_that, row_word, set_word, some_window_word, windows_word}
 use Rattle.why_text.specs.Down.{Down}
 use Rattle.why_text.specs.Lines.{blocked_word, blocked_words, choice_words, pointer_words, sets_words}
 use Rattle.why_lines.specs.declared.lines.downs.Causes.{Causes}
@@ -34,7 +34,7 @@ same_windows p q same = ap set_word (same_channels p q same)
 same_choice : (c : Causes) (k : Down) → AreCauses c k → choice_words (down_with c) ≡ choice_words k
 same_choice c k h =
     ap₂
-    (λ (t : Option ℕ) (x : Choice). codes " touched " ++ channel_word t ++ codes " row " ++ row_word x.row ++ codes " chosen " ++ channel_word x.window)
+    (λ (t : Option ℕ) (x : Choice). codes " touched " ++ some_window_word t ++ codes " row " ++ row_word x.row ++ codes " chosen " ++ some_window_word x.window)
     h.touched_is h.choice_is
 
 same_sets : (c : Causes) (k : Down) → AreCauses c k → sets_words (down_with c) ≡ sets_words k
@@ -48,11 +48,13 @@ same_sets c k h =
     )
     refl
 
-same_blocked : (c : Causes) (k : Down) → AreCauses c k → blocked_words (down_with c).blocked (down_with c).blockers ≡ blocked_words k.blocked k.blockers
-same_blocked c k h = ap₂ (λ (f : ℕ → ℕ → Bool) cs. flat_map (blocked_word f) cs) h.blockers_are (same_channels _ k.blocked h.blocked_are)
+same_blocked : (c : Causes) (k : Down) → AreCauses c k → blocked_words (down_with c).blocked (down_with c).blockers (down_with c).walled ≡ blocked_words k.blocked k.blockers k.walled
+same_blocked c k h =
+    ap₂ (λ (f : ℕ → ℕ → Bool) (g : ℕ → Bool). blocked_words (down_with c).blocked f g) h.blockers_are h.walled_are
+    ∙ ap (λ cs. flat_map (blocked_word k.blockers k.walled) cs) (same_channels _ k.blocked h.blocked_are)
 
 pub words_law : WordsLaw
 words_law d p c k h =
-    ap₂ (λ xs ys. codes "down " ++ pointer_words d p ++ xs ++ ys ++ blocked_words (down_with c).blocked (down_with c).blockers) (same_choice c k h)
+    ap₂ (λ xs ys. codes "down " ++ pointer_words d p ++ xs ++ ys ++ blocked_words (down_with c).blocked (down_with c).blockers (down_with c).walled) (same_choice c k h)
     (same_sets c k h)
     ∙ ap (λ ys. codes "down " ++ pointer_words d p ++ choice_words k ++ sets_words k ++ ys) (same_blocked c k h)

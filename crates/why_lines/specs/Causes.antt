@@ -3,8 +3,9 @@ use Rattle.std.specs.Prelude.{◌≡◌, ℕ, Bool, true, List, Some}
 use Rattle.input_types.specs.declared.motion.Motion.{Motion}
 use Rattle.input_types.specs.declared.pointer.Pointer.{Pointer}
 use Rattle.input_types.specs.Pointers.{IsRising}
-use Rattle.window_snapshot.specs.Blocking.{blockers}
+use Rattle.window_snapshot.specs.Blocking.{blockers, is_walled}
 use Rattle.window_snapshot.specs.Mask.{is_channel, mask_has}
+use Rattle.window_snapshot.specs.Walls.{reaches}
 use Rattle.routing_rules.specs.Scene.{Scene, Moves}
 use Rattle.routing_rules.specs.Given.{changed}
 use Rattle.routing_rules.specs.Outgoing.{is_down}
@@ -18,7 +19,11 @@ use Rattle.why_lines.specs.declared.sight.Sight.{Sight}
 
 -- the windows that block a window
 abbrev pub blocked_by : Blocked → ℕ → ℕ → Bool
-blocked_by k = blockers k.windows.now (mask_has k.reach) k.at.x k.at.y
+blocked_by k = blockers k.windows.now (reaches k.reach.now) k.at.x k.at.y
+
+-- a wall blocks the window
+abbrev pub walled_by : Blocked → ℕ → Bool
+walled_by k = is_walled k.windows.now (reaches k.reach.now) k.at.x k.at.y
 
 -- the windows of each set are those of its mask
 abbrev pub down_with : Causes → Down
@@ -33,6 +38,7 @@ down_with k =
       outside = mask_has k.outside;
       blocked = mask_has k.blocked.mask;
       blockers = blocked_by k.blocked;
+      walled = walled_by k.blocked;
     }
 
 -- the scene is what is seen before a motion of this device
@@ -65,3 +71,4 @@ pub record AreCauses (c : Causes) (k : Down) : Type 0 where
   pub outside_are : Has c.outside k.outside
   pub blocked_are : Has c.blocked.mask k.blocked
   pub blockers_are : blocked_by c.blocked ≡ k.blockers
+  pub walled_are : walled_by c.blocked ≡ k.walled

@@ -10,6 +10,7 @@ ghost use Rattle.std.specs.Prelude.{◌≡◌, ◌&&◌, ℕ};
 ghost use Rattle.window_snapshot.specs.Hits.{is_spy_at, touched};
 ghost use Rattle.window_snapshot.specs.Mask.{mask_has};
 ghost use Rattle.window_snapshot.specs.Occlusion.{is_blocked_at};
+ghost use Rattle.window_snapshot.specs.Walls.{reaches};
 ghost use Rattle.routing_rules.specs.Choice.{is_candidate_of};
 ghost use Rattle.routing_rules.specs.Scene.{Scene};
 ghost use Rattle.why_text.specs.Down.{down_of, targets};
@@ -22,27 +23,27 @@ use input_types::{DeviceId, Motion, Pixel, Pointer};
 use route_split::watchers;
 use window_snapshot::{mask_less, mask_with};
 
-/// The channel of the window under a place, where there is one.
+/// The channel of the window under a place, or the number of the walls, where there is one.
 fn touched_at(sight: &Sight, at: Pixel) -> Option<u32>
-    ensures { result ≡ touched sight.now.windows.now (mask_has sight.now.reach) at.x at.y }
+    ensures { result ≡ touched sight.now.windows.now (reaches sight.now.reach) at.x at.y }
 {
-    sight.windows.touched(at.x, at.y, sight.reach)
+    sight.windows.touched(at.x, at.y, &sight.reach)
 }
 
 /// The mask of the spies at a place.
 fn spies_at(sight: &Sight, at: Pixel) -> u64
     ensures { (c : ℕ) → mask_has result c
-        ≡ is_spy_at sight.now.windows.now (mask_has sight.now.reach) at.x at.y c }
+        ≡ is_spy_at sight.now.windows.now (reaches sight.now.reach) at.x at.y c }
 {
-    sight.windows.spies(at.x, at.y, sight.reach)
+    sight.windows.spies(at.x, at.y, &sight.reach)
 }
 
 /// Of the windows of a mask, those that are blocked at a place.
 fn blocked_at(sight: &Sight, at: Pixel, among: u64) -> u64
     ensures { (c : ℕ) → mask_has result c
-        ≡ (mask_has among c && is_blocked_at sight.now.windows.now (mask_has sight.now.reach) at.x at.y c) }
+        ≡ (mask_has among c && is_blocked_at sight.now.windows.now (reaches sight.now.reach) at.x at.y c) }
 {
-    sight.windows.blocked(at.x, at.y, sight.reach, among)
+    sight.windows.blocked(at.x, at.y, &sight.reach, among)
 }
 
 /// The mask of the candidates: the chosen window and the spies.
@@ -71,13 +72,13 @@ fn target_mask(sight: &Sight, motion: &Motion, pointer: &Pointer) -> u64
         motion.device,
         pointer.at,
         sight.windows,
-        sight.reach,
+        &sight.reach,
         sight.able,
     )
 }
 
 /// The causes of a pointer that goes down with a motion: those of the rules, with sets of windows as masks.
-pub fn down_causes<'a>(sight: &Sight<'a>, motion: &Motion, pointer: &Pointer) -> Causes<'a>
+pub fn down_causes<'a>(sight: &'a Sight<'a>, motion: &Motion, pointer: &Pointer) -> Causes<'a>
     ensures { (s : Scene) → IsSeen s motion.now.device sight.now → Comes s motion.now pointer.now
         → AreCauses result (down_of s motion.now pointer.now) }
 {
@@ -86,7 +87,7 @@ pub fn down_causes<'a>(sight: &Sight<'a>, motion: &Motion, pointer: &Pointer) ->
     let windows = sight.windows;
     let choice = sight
         .touches
-        .choice(device, at, windows, sight.reach, sight.able);
+        .choice(device, at, windows, &sight.reach, sight.able);
     let spies = spies_at(sight, at);
     let targets = target_mask(sight, motion, pointer);
     let able = targets & sight.able;
@@ -99,11 +100,11 @@ pub fn down_causes<'a>(sight: &Sight<'a>, motion: &Motion, pointer: &Pointer) ->
         pilfering: pilfering(sight, device, choice.window, spies),
         given,
         mute: mask_less(targets, sight.able),
-        outside: mask_less(watchers(motion, windows, sight.reach, sight.able), given),
+        outside: mask_less(watchers(motion, windows, &sight.reach, sight.able), given),
         blocked: Blocked {
             mask: blocked,
             windows,
-            reach: sight.reach,
+            reach: &sight.reach,
             at,
         },
     }

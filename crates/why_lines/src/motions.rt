@@ -108,7 +108,7 @@ fn add_slip(
 {
     let way = sight
         .touches
-        .slip(motion, sight.windows, sight.reach, sight.able);
+        .slip(motion, sight.windows, &sight.reach, sight.able);
     match way {
         Some(way) => slip(text, clock, motion.device, *pointer, way.from, way.to),
         None => Ok(()),

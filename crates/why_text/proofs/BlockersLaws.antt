@@ -3,7 +3,7 @@ use Rattle.std.proofs.Common.{◌≡◌, ℕ, Bool, true, false, ◌||◌, ◌==
 use Rattle.std.specs.List.{list_any}
 use Rattle.std.proofs.lemmas.Bool.{eq-eqb, eqb-true, or_left, or_right, or_cases, true≢false}
 use Rattle.window_snapshot.specs.declared.window.Window.{Window}
-use Rattle.window_snapshot.specs.Blocking.{blockers_of, decisive, is_wall}
+use Rattle.window_snapshot.specs.Blocking.{blockers_of, decisive, is_solid}
 use Rattle.window_snapshot.specs.Named.{is_named}
 use Rattle.window_snapshot.specs.Occlusion.{blocks, in_front_of}
 use Rattle.why_text.specs.Laws.{BlockersLaw}
@@ -41,17 +41,17 @@ filter_named p (v ∷ vs) c h = first (p v) h (filter_named p vs c)
 
 -- the decisive ones of some windows are among them, and there is one if there is any
 decisive_named : (p : Window → Bool) (vs : List Window) → list_any p vs ≡ true → (c : ℕ) × (is_named (decisive (filter p vs)) c ≡ true)
-decisive_named p vs h = by_wall (list_any is_wall (filter p vs)) refl
+decisive_named p vs h = by_wall (list_any is_solid (filter p vs)) refl
   where
-    by_wall : (b : Bool) → list_any is_wall (filter p vs) ≡ b → (c : ℕ) × (is_named (cond b (filter is_wall (filter p vs)) (filter p vs)) c ≡ true)
-    by_wall true e = any_named is_wall (filter p vs) e
+    by_wall : (b : Bool) → list_any is_solid (filter p vs) ≡ b → (c : ℕ) × (is_named (cond b (filter is_solid (filter p vs)) (filter p vs)) c ≡ true)
+    by_wall true e = any_named is_solid (filter p vs) e
     by_wall false e = any_named p vs h
 
 named_decisive : (p : Window → Bool) (vs : List Window) (c : ℕ) → is_named (decisive (filter p vs)) c ≡ true → list_any p vs ≡ true
-named_decisive p vs c h = by_wall (list_any is_wall (filter p vs)) h
+named_decisive p vs c h = by_wall (list_any is_solid (filter p vs)) h
   where
-    by_wall : (b : Bool) → is_named (cond b (filter is_wall (filter p vs)) (filter p vs)) c ≡ true → list_any p vs ≡ true
-    by_wall true h = named_any p vs c (filter_named is_wall (filter p vs) c h)
+    by_wall : (b : Bool) → is_named (cond b (filter is_solid (filter p vs)) (filter p vs)) c ≡ true → list_any p vs ≡ true
+    by_wall true h = named_any p vs c (filter_named is_solid (filter p vs) c h)
     by_wall false h = named_any p vs c h
 
 -- a window that is found passes

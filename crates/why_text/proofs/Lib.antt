@@ -5,4 +5,5 @@ pub mod GivenLaws
 pub mod OutsideLaws
 pub mod NoOpLaws
 pub mod Rows
+pub mod WallRows
 pub mod BlockedRows

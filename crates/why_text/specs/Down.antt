@@ -7,7 +7,7 @@ use Rattle.input_types.specs.declared.motion.MotionAction.TheVariants.{Outside}
 use Rattle.input_types.specs.declared.pointer.Pointer.{Pointer}
 use Rattle.window_snapshot.specs.Hits.{touched, is_spy_at}
 use Rattle.window_snapshot.specs.Occlusion.{is_blocked_at}
-use Rattle.window_snapshot.specs.Blocking.{blockers}
+use Rattle.window_snapshot.specs.Blocking.{blockers, is_walled}
 use Rattle.routing_rules.specs.declared.choice.Choice.{Choice}
 use Rattle.routing_rules.specs.Scene.{Scene, Moves}
 use Rattle.routing_rules.specs.Choice.{choice_at, is_candidate, is_target, takers}
@@ -15,7 +15,8 @@ use Rattle.routing_rules.specs.Outgoing.{outgoing}
 
 -- The causes of a down: the window under the position, the choice with its row, the spies at the position, the
 -- candidates that are pilfering the device, the windows that get the pointer, the targets that are not able to, the
--- windows that are sent a touch outside, and the targets that are able to get it but blocked, each with those that block it.
+-- windows that are sent a touch outside, and the targets that are able to get it but blocked, each with those that block it,
+-- and whether a wall does.
 pub record Down : Type 0 where
   pub touched : Option ℕ
   pub choice : Choice
@@ -26,6 +27,7 @@ pub record Down : Type 0 where
   pub outside : ℕ → Bool
   pub blocked : ℕ → Bool
   pub blockers : (blocked : ℕ) → ℕ → Bool
+  pub walled : (blocked : ℕ) → Bool
 
 -- the window is a candidate for a pointer of the motion's device that goes down: the chosen window, or a spy
 abbrev pub may_get : Scene → Motion → Pointer → ℕ → Bool
@@ -54,4 +56,5 @@ down_of s m p =
       outside = λ w. list_any (λ n. is_outside n.action) (outgoing s (Moves m) w d);
       blocked = λ w. targets s m p w && (s.able w && is_blocked_at s.windows (s.reach d) p.at.x p.at.y w);
       blockers = blockers s.windows (s.reach d) p.at.x p.at.y;
+      walled = is_walled s.windows (s.reach d) p.at.x p.at.y;
     }

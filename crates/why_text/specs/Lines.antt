@@ -27,14 +27,14 @@ use Rattle.dispatch_history.specs.Focus.{key_target}
 use Rattle.dispatch_history.specs.Keys.{keys, same_key}
 use Rattle.dispatch_history.specs.KeySent.{last_key}
 use Rattle.dispatch_history.specs.Step.{scene}
-use Rattle.why_text.specs.Words.{set_word, channel_word, channels_that, windows_word, ids_that, row_word}
+use Rattle.why_text.specs.Words.{set_word, channel_word, channels_that, some_window_word, window_word, windows_word, ids_that, row_word}
 use Rattle.why_text.specs.Down.{Down, down_of}
 use Rattle.why_text.specs.Lost.{lost_word, losers}
 
--- a window of a snapshot after a space: its channel, its display and its frame
+-- a window of a snapshot after a space: its channel or `wall`, its display and its frame
 abbrev pub window_words : Window → List ℕ
 window_words v =
-    codes " " ++ decimal v.channel ++ codes "@" ++ decimal v.display ++ codes ":" ++ signed_decimal v.frame.left ++ codes ","
+    codes " " ++ window_word v.channel ++ codes "@" ++ decimal v.display ++ codes ":" ++ signed_decimal v.frame.left ++ codes ","
     ++ signed_decimal v.frame.top ++ codes "," ++ signed_decimal v.frame.right ++ codes "," ++ signed_decimal v.frame.bottom
 
 -- a snapshot, window by window
@@ -56,7 +56,7 @@ pointer_words d p = decimal d ++ codes " " ++ decimal p.id ++ codes " " ++ signe
 -- the window under the position, and the choice with its row
 abbrev pub choice_words : Down → List ℕ
 choice_words k =
-    codes " touched " ++ channel_word k.touched ++ codes " row " ++ row_word k.choice.row ++ codes " chosen " ++ channel_word k.choice.window
+    codes " touched " ++ some_window_word k.touched ++ codes " row " ++ row_word k.choice.row ++ codes " chosen " ++ some_window_word k.choice.window
 
 -- the sets of windows
 abbrev pub sets_words : Down → List ℕ
@@ -64,17 +64,21 @@ sets_words k =
     codes " spies " ++ windows_word k.spies ++ codes " pilfering " ++ windows_word k.pilfering ++ codes " given " ++ windows_word k.given ++ codes " mute "
     ++ windows_word k.mute ++ codes " outside " ++ windows_word k.outside
 
+-- `wall` after a space, if a wall is one of them
+abbrev pub wall_word : Bool → List ℕ
+wall_word wall = if wall then codes " wall" else []
+
 -- a window that is blocked, with those that block it
-abbrev pub blocked_word : (blockers : ℕ → ℕ → Bool) → ℕ → List ℕ
-blocked_word blockers w = codes " blocked " ++ decimal w ++ codes " by " ++ windows_word (blockers w)
+abbrev pub blocked_word : (blockers : ℕ → ℕ → Bool) → (walled : ℕ → Bool) → ℕ → List ℕ
+blocked_word blockers walled w = codes " blocked " ++ decimal w ++ codes " by " ++ windows_word (blockers w) ++ wall_word (walled w)
 
 -- the windows that are blocked, in rising order
-abbrev pub blocked_words : (blocked : ℕ → Bool) → (blockers : ℕ → ℕ → Bool) → List ℕ
-blocked_words blocked blockers = flat_map (blocked_word blockers) (channels_that blocked)
+abbrev pub blocked_words : (blocked : ℕ → Bool) → (blockers : ℕ → ℕ → Bool) → (walled : ℕ → Bool) → List ℕ
+blocked_words blocked blockers walled = flat_map (blocked_word blockers walled) (channels_that blocked)
 
 -- a pointer goes down, with the causes
 abbrev pub down_words : ℕ → Pointer → Down → List ℕ
-down_words d p k = codes "down " ++ pointer_words d p ++ choice_words k ++ sets_words k ++ blocked_words k.blocked k.blockers
+down_words d p k = codes "down " ++ pointer_words d p ++ choice_words k ++ sets_words k ++ blocked_words k.blocked k.blockers k.walled
 
 -- a pointer slips from one window to another
 abbrev pub slip_word : ℕ → Pointer → (from to : ℕ) → List ℕ

@@ -1,8 +1,9 @@
 -- Numbers, sets and rows as words.
-use Rattle.std.specs.Prelude.{codes, ℕ, zero, suc, Bool, List, [], ◌∷◌, ◌++◌, filter, Option, Some, None}
+use Rattle.std.specs.Prelude.{codes, if◌then◌else◌, ℕ, zero, suc, Bool, List, [], ◌∷◌, ◌++◌, filter, Option, Some, None}
 use Rattle.std.specs.Fmt.{decimal}
 use Rattle.routing_rules.specs.declared.choice.Row.{Row}
 use Rattle.routing_rules.specs.declared.choice.Row.TheVariants.{First, Unsplit, Nothing, Whole, Split}
+use Rattle.window_snapshot.specs.Mask.{is_channel}
 use Rattle.dispatch_history.specs.Effects.{channels}
 
 -- numbers joined by commas
@@ -20,6 +21,15 @@ set_word (n ∷ ns) = joined (n ∷ ns)
 abbrev pub channel_word : Option ℕ → List ℕ
 channel_word None = codes "-"
 channel_word (Some c) = decimal c
+
+-- a window by its channel; a wall, which has none, by `wall`
+abbrev pub window_word : ℕ → List ℕ
+window_word c = if is_channel c then decimal c else codes "wall"
+
+-- the window, or `-` if there is none
+abbrev pub some_window_word : Option ℕ → List ℕ
+some_window_word None = codes "-"
+some_window_word (Some c) = window_word c
 
 -- the channels that pass a test, in rising order
 unfoldable pub channels_that : (ℕ → Bool) → List ℕ

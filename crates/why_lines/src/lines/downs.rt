@@ -1,23 +1,24 @@
 //! A pointer that goes down, with the causes.
 ghost use Rattle.std.specs.Prelude.{◌≡◌, ◌++◌, IfOk};
 ghost use Rattle.window_snapshot.specs.Mask.{mask_has};
-ghost use Rattle.why_text.specs.Lines.{blocked_word, blocked_words, choice_words, down_words, sets_words};
+ghost use Rattle.why_text.specs.Lines.{blocked_word, blocked_words, choice_words, down_words, sets_words, wall_word};
 ghost use Rattle.why_text.specs.Text.{line};
 ghost use Rattle.why_text.specs.Words.{row_word, windows_word};
-ghost use Rattle.why_lines.specs.Causes.{blocked_by, down_with};
+ghost use Rattle.why_lines.specs.Causes.{blocked_by, down_with, walled_by};
 
-use crate::blocking::{Blocked, blockers};
+use crate::blocking::{Blocked, blockers, is_walled};
 use crate::lines::line::{add_clock, add_pointer};
-use crate::lines::sets::{add_behind, add_channel, add_windows};
+use crate::lines::sets::{add_behind, add_some_window, add_windows};
 use input_types::{DeviceId, Moment, Pointer};
 use routing_rules::{Choice, Row};
 use std::alloc::AllocError;
 use text_lines::add_word;
 use window_snapshot::{mask_first, mask_without};
 
-/// The causes of a down: the window under the position, and the choice with its row. The masks have the spies at the
-/// position, the candidates that are pilfering the device, the windows that get the pointer, the targets that cannot
-/// get it, the windows that are sent a touch outside, and the targets that could get it but are blocked.
+/// The causes of a down: the window under the position, which may be a wall, and the choice with its row. The masks
+/// have the spies at the position, the candidates that are pilfering the device, the windows that get the pointer, the
+/// targets that cannot get it, the windows that are sent a touch outside, and the targets that could get it but are
+/// blocked.
 #[derive(Clone, Copy)]
 pub struct Causes<'a> {
     pub touched: Option<u32>,
@@ -49,11 +50,11 @@ fn add_choice(text: &mut Vec<u8>, causes: &Causes) -> Result<(), AllocError>
         ≡ text.old.items ++ choice_words (down_with causes.now)) }
 {
     add_word(text, " touched ")?;
-    add_channel(text, causes.touched)?;
+    add_some_window(text, causes.touched)?;
     add_word(text, " row ")?;
     add_word(text, row_word(causes.choice.row))?;
     add_word(text, " chosen ")?;
-    add_channel(text, causes.choice.window)
+    add_some_window(text, causes.choice.window)
 }
 
 /// Adds a set of windows behind some words.
@@ -76,21 +77,29 @@ fn add_sets(text: &mut Vec<u8>, causes: &Causes) -> Result<(), AllocError>
     add_named(text, " outside ", causes.outside)
 }
 
+/// The word of a wall, if it is one.
+fn wall_word(wall: bool) -> &'static str
+    ensures { result.now ≡ wall_word wall }
+{
+    if wall { " wall" } else { "" }
+}
+
 /// Adds a blocked window, with the windows that block it.
 fn add_one_blocked(text: &mut Vec<u8>, blocked: &Blocked, channel: u32) -> Result<(), AllocError>
     ensures { IfOk result (λ _. text.new.items
         ≡ text.old.items
-        ++ blocked_word (blocked_by blocked.now) channel) }
+        ++ blocked_word (blocked_by blocked.now) (walled_by blocked.now) channel) }
 {
     add_behind(text, " blocked ", channel)?;
-    add_named(text, " by ", blockers(blocked, channel))
+    add_named(text, " by ", blockers(blocked, channel))?;
+    add_word(text, wall_word(is_walled(blocked, channel)))
 }
 
 /// Adds each blocked window.
 fn add_blocked(text: &mut Vec<u8>, blocked: &Blocked) -> Result<(), AllocError>
     ensures { IfOk result (λ _. text.new.items
         ≡ text.old.items
-        ++ blocked_words (mask_has blocked.now.mask) (blocked_by blocked.now)) }
+        ++ blocked_words (mask_has blocked.now.mask) (blocked_by blocked.now) (walled_by blocked.now)) }
 {
     let mut rest = blocked.mask;
     while rest != 0 {

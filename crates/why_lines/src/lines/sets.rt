@@ -2,13 +2,13 @@
 ghost use Rattle.std.specs.Prelude.{◌≡◌, ◌++◌, ◌<◌, ◌&&◌, not, [], codes, decimal, cond, IfOk};
 ghost use Rattle.bits32.specs.Set.{is_in};
 ghost use Rattle.window_snapshot.specs.Mask.{mask_has};
-ghost use Rattle.why_text.specs.Words.{channel_word, channels_that, joined, set_word, windows_word};
+ghost use Rattle.why_text.specs.Words.{channel_word, channels_that, joined, set_word, some_window_word, window_word, windows_word};
 ghost use Rattle.why_lines.specs.Lost.{behind_commas, ids_in};
 
 use bits32::Bits32;
 use std::alloc::AllocError;
 use text_lines::{add_labeled, add_number, add_word};
-use window_snapshot::{mask_first, mask_without};
+use window_snapshot::{is_channel, mask_first, mask_without};
 
 /// Adds a channel, or `-` if there is none.
 pub(crate) fn add_channel(text: &mut Vec<u8>, channel: Option<u32>) -> Result<(), AllocError>
@@ -16,6 +16,27 @@ pub(crate) fn add_channel(text: &mut Vec<u8>, channel: Option<u32>) -> Result<()
 {
     match channel {
         Some(channel) => add_number(text, u64::from(channel)),
+        None => add_word(text, "-"),
+    }
+}
+
+/// Adds a window by its channel; a wall, which has none, by `wall`.
+pub(crate) fn add_window_word(text: &mut Vec<u8>, channel: u32) -> Result<(), AllocError>
+    ensures { IfOk result (λ _. text.new.items ≡ text.old.items ++ window_word channel) }
+{
+    if is_channel(channel) {
+        add_number(text, u64::from(channel))
+    } else {
+        add_word(text, "wall")
+    }
+}
+
+/// Adds a window, or `-` if there is none.
+pub(crate) fn add_some_window(text: &mut Vec<u8>, window: Option<u32>) -> Result<(), AllocError>
+    ensures { IfOk result (λ _. text.new.items ≡ text.old.items ++ some_window_word window) }
+{
+    match window {
+        Some(channel) => add_window_word(text, channel),
         None => add_word(text, "-"),
     }
 }

@@ -5,6 +5,7 @@ ghost use Rattle.why_text.specs.Lines.{snapshot_words, window_words};
 ghost use Rattle.why_text.specs.Text.{line};
 
 use crate::lines::line::{add_clock, add_place};
+use crate::lines::sets::add_window_word;
 use input_types::Moment;
 use std::alloc::AllocError;
 use text_lines::{add_labeled, add_word};
@@ -43,7 +44,8 @@ fn add_frame(text: &mut Vec<u8>, frame: &Rect) -> Result<(), AllocError>
 fn add_window(text: &mut Vec<u8>, window: &Window) -> Result<(), AllocError>
     ensures { IfOk result (λ _. text.new.items ≡ text.old.items ++ window_words window.now) }
 {
-    add_labeled(text, " ", u64::from(window.channel))?;
+    add_word(text, " ")?;
+    add_window_word(text, window.channel)?;
     add_labeled(text, "@", u64::from(window.display.get()))?;
     add_word(text, ":")?;
     add_frame(text, &window.frame)

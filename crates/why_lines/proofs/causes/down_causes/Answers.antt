@@ -1,6 +1,6 @@
 use Rattle.std.proofs.Common.{◌≡◌, ℕ, true, ◌&&◌, not, bit_and, sym, ap, ap₂, ◌∙◌}
 use Rattle.window_snapshot.specs.Mask.{is_channel, mask_has}
-use Rattle.window_snapshot.specs.Blocking.{blockers}
+use Rattle.window_snapshot.specs.Blocking.{blockers, is_walled}
 use Rattle.window_snapshot.specs.Hits.{is_spy_at, touched}
 use Rattle.window_snapshot.specs.Occlusion.{is_blocked_at}
 use Rattle.routing_rules.specs.Choice.{is_candidate}
@@ -48,4 +48,5 @@ returns c s seen k =
           (c.watchers.ensures s e w ∙ ap (λ o. is_watching s m o w) k.changed_is);
       blocked_are = λ w number. blocked_targets s m p c.blocked_at-blocked.result able w (able_are w number) (blocked_are w);
       blockers_are = ap₂ (λ ws r. blockers ws r p.at.x p.at.y) (sym e.windows_are) (sym e.reach_is);
+      walled_are = ap₂ (λ ws r. is_walled ws r p.at.x p.at.y) (sym e.windows_are) (sym e.reach_is);
     }

@@ -1,7 +1,7 @@
 use Rattle.std.proofs.Common.{length, arith, ap}
 use Rattle.window_snapshot.specs.Mask.{mask_has}
 use Rattle.why_text.specs.Lines.{blocked_word}
-use Rattle.why_lines.specs.Causes.{blocked_by}
+use Rattle.why_lines.specs.Causes.{blocked_by, walled_by}
 use Rattle.why_lines.proofs.Passing.{first_channel, further_done, further_more}
 use Rattle.why_lines.proofs.lines.downs.add_blocked.Goals as goal
 
@@ -17,7 +17,7 @@ loop-rest-smaller c =
 pub loop-rest-preserved : goal.loop-rest-preserved
 loop-rest-preserved c =
     let first = c.mask_first-channel in
-    further_more (blocked_word (blocked_by c.args.blocked.now)) c.loop-rest.rest c.mask_without-rest.result first.result _ c.loop-rest.text.items
+    further_more (blocked_word (blocked_by c.args.blocked.now) (walled_by c.args.blocked.now)) c.loop-rest.rest c.mask_without-rest.result first.result _ c.loop-rest.text.items
     c.add_one_blocked.new.text.items
     first.ensures.range.0
     first.ensures.range.1
@@ -29,4 +29,4 @@ loop-rest-preserved c =
 
 pub returns : goal.returns
 returns c =
-    further_done (blocked_word (blocked_by c.args.blocked.now)) c.loop-rest.rest _ c.loop-rest.text.items c.loop-rest-test.false c.loop-rest.invariant
+    further_done (blocked_word (blocked_by c.args.blocked.now) (walled_by c.args.blocked.now)) c.loop-rest.rest _ c.loop-rest.text.items c.loop-rest-test.false c.loop-rest.invariant

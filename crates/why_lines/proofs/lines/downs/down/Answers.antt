@@ -16,7 +16,7 @@ returns c =
     let text = c.args.text.now.items in
     let k = down_with c.args.causes.now in
     let pointer = codes "down " ++ pointer_words c.args.device c.args.pointer in
-    let blocked = blocked_words k.blocked k.blockers in
+    let blocked = blocked_words k.blocked k.blockers k.walled in
     grown c.add_word.result c.add_word.new.text.items c.add_blocked.new.text.items (codes "\n")
     (text ++ line c.args.clock (down_words c.args.device c.args.pointer k))
     c.add_word.ensures
