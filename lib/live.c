@@ -217,6 +217,25 @@ int inputflinger_live_next_sized(struct inputflinger_live *live, const struct in
 	return (int)status;
 }
 
+int inputflinger_live_next_any_sized(struct inputflinger_live *live, struct inputflinger_client *client,
+		struct inputflinger_message *message, size_t message_size, bool *last)
+{
+	struct inputflinger_message found;
+	uint8_t told = 0;
+	uint32_t status;
+
+	if (live == NULL || client == NULL || message == NULL || last == NULL)
+		return INPUTFLINGER_NULL;
+	if (message_size < MESSAGE_FIRST)
+		return other_size(live);
+	status = inputflinger_proved_live_next_any(live, client, message_size == sizeof found ? message : &found, &told);
+	if (status == INPUTFLINGER_OK && message_size != sizeof found)
+		sized_written(message, message_size, &found, sizeof found);
+	if (status == INPUTFLINGER_OK)
+		*last = told != 0;
+	return (int)status;
+}
+
 int inputflinger_live_finish(struct inputflinger_live *live, uint64_t now_us,
 		const struct inputflinger_client *client, uint64_t seq)
 {

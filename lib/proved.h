@@ -44,6 +44,8 @@ uint32_t inputflinger_proved_live_pilfer(struct inputflinger_live *live, uint64_
 uint32_t inputflinger_proved_live_waiting(struct inputflinger_live *live, uint64_t *mask);
 uint32_t inputflinger_proved_live_next(struct inputflinger_live *live, const struct inputflinger_client *client,
 		struct inputflinger_message *message);
+uint32_t inputflinger_proved_live_next_any(struct inputflinger_live *live, struct inputflinger_client *client,
+		struct inputflinger_message *message, uint8_t *last);
 uint32_t inputflinger_proved_live_finish(struct inputflinger_live *live, uint64_t now_us,
 		const struct inputflinger_client *client, uint64_t seq);
 uint32_t inputflinger_proved_live_finish_through(struct inputflinger_live *live, uint64_t now_us,

@@ -23,6 +23,16 @@ class Client:
 
 
 @dataclasses.dataclass(frozen=True)
+class Handed:
+    """A message that is handed out with its client."""
+
+    client: Client
+    message: Message
+    last: bool
+    """Whether no message of the same step is left to hand out now."""
+
+
+@dataclasses.dataclass(frozen=True)
 class Rect:
     """The display pixels with left <= x < right and top <= y < bottom."""
 
@@ -60,11 +70,11 @@ class Occlusion(enum.IntEnum):
 
 @dataclasses.dataclass(frozen=True)
 class Window:
-    """A window of a client. Its frame's left and top edges are the origin of what the client is sent. It can be touched in ``touchable``, which is the whole
+    """A window of a client; of no client, a wall, which takes touches that nobody is given. Its frame's left and top edges are the origin of what the client is sent. It can be touched in ``touchable``, which is the whole
     frame if it is None. Windows of one ``owner`` trust each other; ``opacity``, 0 to 100 per cent, is how much it hides of what is behind it, and ``occlusion``
     whether a touch may go through it to a window of another owner."""
 
-    client: Client
+    client: Optional[Client]
     frame: Rect
     flags: int = 0
     touchable: Optional[Sequence[Rect]] = None
@@ -78,7 +88,8 @@ class Window:
 
     def plain(self) -> native.Window:
         trust = (native.UNUSED, u32(self.owner), u8(self.opacity), u8(self.occlusion))
-        return native.Window(self.client.plain(), self.frame.plain(), u32(self.flags), len(self.rects()), u8(self.display), *trust)
+        client = native.Client() if self.client is None else self.client.plain()
+        return native.Window(client, self.frame.plain(), u32(self.flags), len(self.rects()), u8(self.display), *trust)
 
 
 @dataclasses.dataclass(frozen=True)
@@ -206,6 +217,17 @@ class Live:
         message = native.Message()
         status = native.call("live_next_sized", byref(self._handle), byref(client.plain()), byref(message), ctypes.sizeof(message))
         return message_of(message) if found(status) else None
+
+    def next_any(self) -> Optional[Handed]:
+        """Hands out the next message of any client, in the order in which the service sent them; None if there is none.
+
+        Each client gets the messages that ``next`` would hand it, in the same order."""
+        client, message, last = native.Client(), native.Message(), ctypes.c_bool()
+        size = ctypes.sizeof(message)
+        status = native.call("live_next_any_sized", byref(self._handle), byref(client), byref(message), size, byref(last))
+        if not found(status):
+            return None
+        return Handed(Client(client.channel, client.generation), message_of(message), last.value)
 
     def finish(self, now_us: int, client: Client, seq: int) -> None:
         """Says that a client is done with a message that it received."""

@@ -127,6 +127,7 @@ CALLS = {
     "live_pilfer": [_HANDLE, c_uint64, _CLIENT, c_uint8],
     "live_waiting": [_HANDLE, _U64],
     "live_next_sized": [_HANDLE, _CLIENT, POINTER(Message), c_size_t],
+    "live_next_any_sized": [_HANDLE, _CLIENT, POINTER(Message), c_size_t, POINTER(c_bool)],
     "live_finish": [_HANDLE, c_uint64, _CLIENT, c_uint64],
     "live_finish_through": [_HANDLE, c_uint64, _CLIENT, c_uint64],
     "live_due": [_HANDLE, _U64],

@@ -1,6 +1,6 @@
 import pytest
 
-from inputflinger import FLAG_OBSCURED, Action, BadLayout, Client, Focus, InputflingerError, Judge, Key, Live, Motion, Occlusion, Panel, Pointer, Rect, Status, Window, WindowError, WindowFlag
+from inputflinger import FLAG_OBSCURED, Action, BadLayout, Client, Focus, Handed, InputflingerError, Judge, Key, Live, Motion, Occlusion, Panel, Pointer, Rect, Status, Window, WindowError, WindowFlag
 
 PANEL = Panel((0, 1079), (0, 2399), 1080, 2400)
 WHOLE = Rect(0, 0, 1080, 2400)
@@ -38,6 +38,19 @@ def test_a_finger_of_a_panel_reaches_the_window_below_it() -> None:
         live.finish_through(4000, right, 2)
         assert refused(live.finish, 4000, right, 2) == Status.UNKNOWN_SEQ
         assert live.clock() == 4000 and live.due() is None
+
+
+def test_messages_are_handed_out_in_the_order_of_the_steps() -> None:
+    with Live(limit_us=1000000) as live:
+        left, right = live.open(), live.open()
+        live.windows(0, [Window(left, Rect(0, 0, 540, 2400)), Window(right, Rect(540, 0, 1080, 2400))])
+        assert live.next_any() is None
+        live.focus(0, right)
+        live.focus(0, left)
+        assert live.next_any() == Handed(right, Focus(True, 1, 0), True)
+        assert live.next_any() == Handed(right, Focus(False, 2, 0), False)
+        assert live.next_any() == Handed(left, Focus(True, 1, 0), True)
+        assert live.next_any() is None and live.next(left) is None
 
 
 def test_a_key_is_repeated_and_a_client_is_late() -> None:
@@ -83,6 +96,17 @@ def test_a_window_of_another_owner_blocks_or_marks_a_touch() -> None:
                 message = live.next(lower)
                 assert (None if message is None else message.flags) == wanted
         assert refused(live.windows, 3000, [Window(lower, WHOLE, opacity=101)]) == Status.OUT_OF_RANGE
+
+
+def test_a_wall_takes_touches_that_nobody_is_given() -> None:
+    with Live() as live:
+        panel, client = live.add_touch(PANEL), live.open()
+        for now, windows, wanted in ((1000, [Window(None, WHOLE), Window(None, WHOLE), Window(client, WHOLE)], None), (2000, [Window(client, WHOLE)], Action.DOWN)):
+            live.windows(now, windows)
+            live.args(now, Motion(panel, Action.DOWN, [Pointer(0, 540, 1200)]))
+            message = live.next(client)
+            assert (None if message is None else message.action) == wanted
+            live.args(now, Motion(panel, Action.UP, [Pointer(0, 540, 1200)]))
 
 
 def test_a_spy_pilfers() -> None:

@@ -20,7 +20,8 @@
  * its positions are the pixels of its display. What a finger does is given in events: `down` has the device, the slot, the
  * tracking id and the position, `move` the device, the slot and the position, `up` and `palm` the device and the slot;
  * `report` is a SYN_REPORT, `dropped` a SYN_DROPPED, and `key` has the scan code and the value. A device with keys has the
- * scan codes 30 and 115. A client may leave a message unfinished for five seconds.
+ * scan codes 30 and 115. A client may leave a message unfinished for five seconds. `next` has a client, and lists all that
+ * it has; `next_any` lists all that any client has, in the order in which the service sent it, and `last` after each step.
  */
 #include <stdlib.h>
 #include <string.h>
@@ -209,11 +210,33 @@ static bool reading(const struct line *line)
 	return true;
 }
 
-/* All messages that a client has. */
+/* All messages that clients have, each with its client, and a line after the last one of each step. */
+static void receive_any(void)
+{
+	struct inputflinger_client of;
+	struct inputflinger_message message;
+	bool last;
+
+	while (inputflinger_live_next_any(&live, &of, &message, &last) == INPUTFLINGER_OK) {
+		for (size_t i = 0; i < opened; i++)
+			if (clients[i].channel == of.channel && clients[i].generation == of.generation)
+				printf("> client %zu: ", i + 1);
+		say(stdout, &message);
+		if (last)
+			puts("> last");
+	}
+}
+
+/* All messages that a client has, or that all clients have. */
 static bool receiving(const struct line *line)
 {
 	struct inputflinger_message message;
 
+	if (is(line, "next_any", 0)) {
+		putchar('\n');
+		receive_any();
+		return true;
+	}
 	if (!is(line, "next", 1))
 		return false;
 	putchar('\n');

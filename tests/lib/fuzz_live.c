@@ -226,6 +226,32 @@ static void get(struct side *side, uint32_t i, uint64_t call)
 	}
 }
 
+/* The same, of any client: it is open, and what it gets is its next message. */
+static void get_any(struct side *side, uint64_t call)
+{
+	struct inputflinger_client k;
+	struct inputflinger_message m;
+	struct inputflinger_fault fault;
+	uint64_t mask = 0;
+	bool last;
+	int status;
+
+	inputflinger_live_waiting(&side->live, &mask);
+	status = inputflinger_live_next_any(&side->live, &k, &m, &last);
+	if (!side->is_open) {
+		demand(status == INPUTFLINGER_FREE, "next_any of a free handle", call);
+	} else if (mask == 0) {
+		demand(status == INPUTFLINGER_NOTHING, "next_any has nothing", call);
+	} else {
+		struct seat *s = status == INPUTFLINGER_OK ? seat_of(side, &k) : NULL;
+
+		demand(s != NULL, "next_any of an open client", call);
+		demand(mask >> (k.channel - 1) & 1, "next_any of a client that waits", call);
+		demand(m.seq == ++s->got, "the messages of a client are numbered from 1 on, of any client", call);
+		demand(inputflinger_judge_step(&s->judge, &m, &fault) == INPUTFLINGER_OK, "what any client is told is well-formed", call);
+	}
+}
+
 static void finish(struct side *side, uint32_t i, uint64_t call)
 {
 	struct inputflinger_client k = client(side, i);
@@ -333,8 +359,10 @@ int main(int count, char **words)
 			finger(side);
 		else if (what < 24)
 			ready(side);
-		else if (what < 44)
+		else if (what < 40)
 			get(side, i, call), got += side->seats[i].got > 0;
+		else if (what < 44)
+			get_any(side, call);
 		else if (what < 54)
 			finish(side, i, call);
 		else if (what < 58)

@@ -84,6 +84,7 @@ static void other_sizes(void)
 	struct inputflinger_state state = {.focus = 77};
 	struct inputflinger_window window = {.client = client};
 	uint8_t device = 77;
+	bool last = true;
 
 	for (int open = 0; open < 2; open++) {
 		int wanted = open ? INPUTFLINGER_OUT_OF_RANGE : INPUTFLINGER_FREE;
@@ -95,6 +96,7 @@ static void other_sizes(void)
 		CHECK(inputflinger_live_args_sized(&live, 0, &m, sizeof m - 1) == wanted);
 		CHECK(inputflinger_live_windows_sized(&live, 0, &window, WINDOW_FIRST - 1, 1, NULL, 0, NULL) == wanted);
 		CHECK(inputflinger_live_next_sized(&live, &client, &m, sizeof m - 1) == wanted);
+		CHECK(inputflinger_live_next_any_sized(&live, &client, &m, sizeof m - 1, &last) == wanted && last);
 		CHECK(fault.place == 77 && state.focus == 77 && device == 77 && m.count == 1);
 		OK(open ? inputflinger_judge_free(&judge) : inputflinger_judge_new(&judge));
 		OK(open ? inputflinger_live_free(&live) : inputflinger_live_new(&live, 1000000, NULL));
@@ -109,8 +111,10 @@ static void later_live(void)
 	struct later_panel long_panel = {panel, 1};
 	struct later_window windows[2] = {{{.frame = rects[0], .rects = 1}, 0}, {{.frame = rects[1], .rects = 1}, 0}};
 	struct later_message m = down();
+	struct inputflinger_client client;
 	uint64_t named = 77;
 	uint8_t device = 77;
+	bool last = false;
 
 	OK(inputflinger_live_new(&live, 1000000, NULL));
 	CHECK(inputflinger_live_add_touch_sized(&live, 0, 1, &long_panel.now, sizeof long_panel, &device) == INPUTFLINGER_OUT_OF_RANGE);
@@ -125,10 +129,15 @@ static void later_live(void)
 	OK(inputflinger_live_windows_sized(&live, 0, &windows[0].now, sizeof *windows, 2, rects, 2, &named));
 	m.now.pointers[0].x = 600;
 	OK(inputflinger_live_args_sized(&live, 1000, &m.now, sizeof m));
+	m.now.action = INPUTFLINGER_MOVE;
+	OK(inputflinger_live_args_sized(&live, 1000, &m.now, sizeof m));
 	memset(&m, 0x55, sizeof m);
 	CHECK(inputflinger_live_next_sized(&live, &windows[0].now.client, &m.now, sizeof m) == INPUTFLINGER_NOTHING && m.now.seq != 1);
 	OK(inputflinger_live_next_sized(&live, &windows[1].now.client, &m.now, sizeof m));
 	CHECK(m.now.seq == 1 && m.now.pointers[0].x == 100 && m.now.pointers[0].id == 3 && m.more == 0);
+	memset(&m, 0x55, sizeof m);
+	OK(inputflinger_live_next_any_sized(&live, &client, &m.now, sizeof m, &last));
+	CHECK(client.channel == 2 && m.now.seq == 2 && m.now.action == INPUTFLINGER_MOVE && m.more == 0 && last);
 	windows[1].now.client.generation = 99;
 	CHECK(inputflinger_live_windows_sized(&live, 2000, &windows[0].now, sizeof *windows, 2, rects, 2, &named) == INPUTFLINGER_NOT_OPEN && named == 1);
 	OK(inputflinger_live_free(&live));

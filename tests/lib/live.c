@@ -108,6 +108,7 @@ static void free_handles(void)
 	CHECK(inputflinger_live_pilfer(&live, 0, &client, 1) == INPUTFLINGER_FREE);
 	CHECK(inputflinger_live_waiting(&live, &number) == INPUTFLINGER_FREE && number == 7);
 	CHECK(inputflinger_live_next(&live, &client, &m) == INPUTFLINGER_FREE);
+	CHECK(inputflinger_live_next_any(&live, &client, &m, &told) == INPUTFLINGER_FREE && told);
 	CHECK(inputflinger_live_finish(&live, 0, &client, 1) == INPUTFLINGER_FREE);
 	CHECK(inputflinger_live_finish_through(&live, 0, &client, 1) == INPUTFLINGER_FREE);
 	CHECK(inputflinger_live_due(&live, &number) == INPUTFLINGER_FREE && number == 7);
@@ -163,6 +164,10 @@ static void nulls(void)
 	CHECK(inputflinger_live_next(NULL, &client, &m) == INPUTFLINGER_NULL);
 	CHECK(inputflinger_live_next(&live, NULL, &m) == INPUTFLINGER_NULL);
 	CHECK(inputflinger_live_next(&live, &client, NULL) == INPUTFLINGER_NULL);
+	CHECK(inputflinger_live_next_any(NULL, &client, &m, &told) == INPUTFLINGER_NULL);
+	CHECK(inputflinger_live_next_any(&live, NULL, &m, &told) == INPUTFLINGER_NULL);
+	CHECK(inputflinger_live_next_any(&live, &client, NULL, &told) == INPUTFLINGER_NULL);
+	CHECK(inputflinger_live_next_any(&live, &client, &m, NULL) == INPUTFLINGER_NULL);
 	CHECK(inputflinger_live_finish(NULL, 0, &client, 1) == INPUTFLINGER_NULL);
 	CHECK(inputflinger_live_finish(&live, 0, NULL, 1) == INPUTFLINGER_NULL);
 	CHECK(inputflinger_live_finish_through(NULL, 0, &client, 1) == INPUTFLINGER_NULL);
@@ -529,6 +534,84 @@ static void finished_through(void)
 	OK(inputflinger_live_free(&live));
 }
 
+/* The next message of any client has this client, this seq and this kind. */
+static void next_any(live_t *live, client_t wanted, uint64_t seq, uint32_t kind, bool wanted_last)
+{
+	client_t client = {0};
+	message_t m;
+	bool last = !wanted_last;
+
+	memset(&m, 0x55, sizeof m);
+	OK(inputflinger_live_next_any(live, &client, &m, &last));
+	same_client(client, wanted.channel, wanted.generation);
+	CHECK(m.seq == seq && m.kind == kind && last == wanted_last);
+}
+
+/* Two clients get what they were sent in the order of the steps: the focus and a key leave one before the other has it. */
+static void in_order(void)
+{
+	live_t live = {0};
+	client_t left = {0}, right = {0}, none = {7, 77};
+	struct inputflinger_window two[2];
+	message_t m = key(1, 115, 24, 1);
+	uint8_t device = 0;
+	bool last = true;
+
+	OK(inputflinger_live_new(&live, LIMIT, NULL));
+	OK(inputflinger_live_add_keys(&live, 0, "key 115 VOLUME_UP\n", 18, &device, NULL));
+	OK(inputflinger_live_open(&live, &left));
+	OK(inputflinger_live_open(&live, &right));
+	two[0] = window(left, 0);
+	two[1] = window(right, 0);
+	OK(show(&live, two, 2, NULL));
+	OK(inputflinger_live_focus(&live, 0, 0, &right));
+	OK(inputflinger_live_args(&live, 1000, &m));
+	OK(inputflinger_live_focus(&live, 1000, 0, &left));
+	OK(inputflinger_live_focus(&live, 1000, 0, &right));
+	next_any(&live, right, 1, INPUTFLINGER_FOCUS, true);
+	next_any(&live, right, 2, INPUTFLINGER_KEY, true);
+	next_any(&live, right, 3, INPUTFLINGER_KEY, false);
+	CHECK(next(&live, left).focus == 1);
+	next_any(&live, right, 4, INPUTFLINGER_FOCUS, true);
+	next_any(&live, left, 2, INPUTFLINGER_FOCUS, false);
+	next_any(&live, right, 5, INPUTFLINGER_FOCUS, true);
+	m.seq = 77;
+	CHECK(inputflinger_live_next_any(&live, &none, &m, &last) == INPUTFLINGER_NOTHING && m.seq == 77 && last);
+	same_client(none, 77, 7);
+	OK(inputflinger_live_free(&live));
+}
+
+/* A message that waits behind 64 unfinished ones comes after what was sent before it was published. */
+static void after_a_finish(void)
+{
+	live_t live = {0};
+	client_t left = {0}, right = {0};
+	struct inputflinger_window two[2];
+	uint8_t device = 0;
+
+	OK(inputflinger_live_new(&live, LIMIT, NULL));
+	OK(inputflinger_live_add_touch(&live, 0, 10, &panel, &device));
+	OK(inputflinger_live_open(&live, &left));
+	OK(inputflinger_live_open(&live, &right));
+	two[0] = window(left, 0);
+	two[1] = window(right, 0);
+	OK(show(&live, two, 2, NULL));
+	for (uint64_t i = 0; i < 66; i++) {
+		message_t m = motion(1, i == 0 ? INPUTFLINGER_DOWN : INPUTFLINGER_MOVE, 0, 0x1, 540, 1200);
+
+		OK(inputflinger_live_args(&live, i, &m));
+	}
+	OK(inputflinger_live_focus(&live, 66, 0, &right));
+	for (uint64_t seq = 1; seq <= 64; seq++)
+		next_any(&live, left, seq, INPUTFLINGER_MOTION, true);
+	OK(inputflinger_live_finish(&live, 66, &left, 1));
+	next_any(&live, right, 1, INPUTFLINGER_FOCUS, true);
+	next_any(&live, left, 65, INPUTFLINGER_MOTION, true);
+	OK(inputflinger_live_finish_through(&live, 66, &left, 65));
+	next_any(&live, left, 66, INPUTFLINGER_MOTION, true);
+	OK(inputflinger_live_free(&live));
+}
+
 /* The finger of the header's page, and a handle that is moved under it. */
 static void closed_under_a_finger(void)
 {
@@ -636,6 +719,8 @@ int main(int count, char **words)
 	fingers();
 	keys_and_time();
 	finished_through();
+	in_order();
+	after_a_finish();
 	closed_under_a_finger();
 	return 0;
 }

@@ -46,6 +46,7 @@ mod live_driving;
 mod live_exports;
 mod live_giving;
 mod live_messages;
+mod live_next_any;
 mod live_plugging;
 mod live_showing;
 mod live_through;

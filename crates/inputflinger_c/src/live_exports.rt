@@ -41,7 +41,9 @@ pub extern "C" fn inputflinger_proved_live_new(
     }
 }
 
-/// A new service in a block of its own.
+/// A new service in a block of its own. It is not inlined: in a caller that has just read the displays, LLVM 22 set up
+/// the large frame of a service with a register that held one of them.
+#[inline(never)]
 fn boxed(alloc: Global, limit: Limit, displays: &Displays) -> Result<Box<Live>, AllocError>
     ensures { IfOk result (λ b. Begins limit displays.now b.value) }
 {

@@ -26,7 +26,7 @@ fn window(alloc: Global, client: Client, left: i32, right: i32) -> Option<Client
     let mut rects = Vec::new(alloc);
     rects.push(frame).ok()?;
     Some(ClientWindow {
-        client,
+        client: Some(client),
         display: DisplayId::zero(),
         frame,
         region: Region::new(rects).ok()?,

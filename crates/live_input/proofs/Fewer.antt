@@ -1,9 +1,10 @@
 -- The windows of a snapshot without that of a channel are one.
-use Rattle.std.proofs.Common.{◌≡◌, ℕ, ◌≤◌, ◌==◌, Bool, true, false, not, cond, List, [], ◌∷◌, ◌++◌, filter, length, Option, Some, None, refl, sym, ap, ◌∙◌, arith}
+use Rattle.std.proofs.Common.{◌≡◌, ℕ, ◌≤◌, ◌==◌, ◌&&◌, Bool, true, false, not, cond, List, [], ◌∷◌, ◌++◌, filter, length, Option, Some, None, refl, sym, ap, ◌∙◌, arith}
 use Rattle.std.specs.Prelude.{Ok, Err}
 use Rattle.std.proofs.lemmas.Bool.{le-ltb}
 use Rattle.window_snapshot.specs.declared.snapshot.SnapshotError.TheVariants.{TooMany}
 use Rattle.window_snapshot.specs.declared.window.Window.{Window}
+use Rattle.window_snapshot.specs.Mask.{is_channel}
 use Rattle.window_snapshot.specs.Named.{is_named}
 use Rattle.window_snapshot.specs.Snapshot.{snapshot_of, snapshot_unless}
 use Rattle.window_snapshot.specs.WindowList.{IsSnapshot, twice_after, first_twice}
@@ -45,13 +46,17 @@ twice_parts false k later e = (refl, e)
 once : (p : Window → Bool) (before ws : List Window) → twice_after before ws ≡ None → twice_after (filter p before) (filter p ws) ≡ None
 once p before [] e = refl
 once p before (w ∷ ws) e =
-    let x = twice_parts (is_named before w.channel) w.channel (twice_after (before ++ w ∷ []) ws) e in
+    let x = twice_parts (is_channel w.channel && is_named before w.channel) w.channel (twice_after (before ++ w ∷ []) ws) e in
     by_test (p w) refl x.0 (once p (before ++ w ∷ []) ws x.1)
   where
-    by_test : (b : Bool) → p w ≡ b → is_named before w.channel ≡ false → twice_after (filter p (before ++ w ∷ [])) (filter p ws) ≡ None
+    new : (k : Bool) → (k && is_named before w.channel) ≡ false → (k && is_named (filter p before) w.channel) ≡ false
+    new true n = named_filter p before w.channel n
+    new false n = refl
+
+    by_test : (b : Bool) → p w ≡ b → (is_channel w.channel && is_named before w.channel) ≡ false → twice_after (filter p (before ++ w ∷ [])) (filter p ws) ≡ None
         → twice_after (filter p before) (cond b (w ∷ filter p ws) (filter p ws)) ≡ None
     by_test true t n more =
-        ap (λ b. cond b (Some w.channel) (twice_after (filter p before ++ w ∷ []) (filter p ws))) (named_filter p before w.channel n)
+        ap (λ b. cond b (Some w.channel) (twice_after (filter p before ++ w ∷ []) (filter p ws))) (new (is_channel w.channel) n)
         ∙ ap (λ xs. twice_after xs (filter p ws)) (sym (filter_last p before w ∙ ap (λ b. filter p before ++ cond b (w ∷ []) []) t))
         ∙ more
     by_test false t n more =

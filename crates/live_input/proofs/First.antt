@@ -8,16 +8,14 @@ use Rattle.window_snapshot.proofs.Masks.{mask_has-zero}
 use Rattle.live_input.specs.Seats.{is_held, seat_of, vacant}
 use Rattle.live_input.specs.Standing.{LiveIs}
 use Rattle.live_input.specs.State.{LiveState}
-
-same_at : {X : Type 0} (x : X) (n i : ℕ) → slice_index_or (replicate n x) i x ≡ x
-same_at x zero i = refl
-same_at x (suc n) zero = refl
-same_at x (suc n) (suc i) = same_at x n i
+use Rattle.live_input.specs.Steps.{no_step}
+use Rattle.live_input.proofs.Noted.{same_at, steps_first}
 
 pub live_first : (ds : List ℕ) (s : LiveState) → StandsFor [] s.dispatcher → s.dispatcher.displays ≡ ds → s.windows ≡ []
     → s.requested ≡ replicate 4 None → s.asked ≡ 0 → s.seats ≡ replicate 64 vacant
-    → ((c : ℕ) → 1 ≤ c → gone s.dispatcher c ≡ 0) → anrs_released s.dispatcher ≡ 0 → s.named ≡ 0 → LiveIs ds [] s
-live_first ds s stands displays windows requested asked seats gone anrs named =
+    → ((c : ℕ) → 1 ≤ c → gone s.dispatcher c ≡ 0) → anrs_released s.dispatcher ≡ 0 → s.named ≡ 0
+    → s.steps.made ≡ 0 → s.steps.channels ≡ replicate 64 no_step → LiveIs ds [] s
+live_first ds s stands displays windows requested asked seats gone anrs named made steps =
     record {
       stands = stands;
       displays_are = displays;
@@ -37,13 +35,14 @@ live_first ds s stands displays windows requested asked seats gone anrs named =
           };
       tenants_are =
           record {
-            shown = λ c named. absurd (true≢false (sym named));
+            shown = λ c few named. absurd (true≢false (sym named));
             asked = λ y low. tt;
             left = λ c low high is. absurd (omega (arith, low, high));
             begun = λ c held. absurd (none c held.2);
           };
       named_are = λ c is. absurd (true≢false (sym is ∙ ap (λ n. mask_has n c) named ∙ mask_has-zero c));
       release = record { messages_are = gone; anrs_are = anrs };
+      steps_are = steps_first s.steps made steps;
     }
   where
     none : (c : ℕ) → is_held (seat_of s.seats c) ≡ true → ⊥

@@ -146,7 +146,7 @@ or_more false b c = refl
 pub live_noted : (ds : List ℕ) (es : List Effect) (s : LiveState) (n : ℕ) → LiveIs ds es s → IsMaskOfHeld n s.seats
     → LiveIs ds es (record s { named = n })
 live_noted ds es s n h named =
-    record { stands = h.stands; displays_are = h.displays_are; windows_are = h.windows_are; requests_are = h.requests_are; seats_are = h.seats_are; tenants_are = h.tenants_are; named_are = named; release = h.release }
+    record { stands = h.stands; displays_are = h.displays_are; windows_are = h.windows_are; requests_are = h.requests_are; seats_are = h.seats_are; tenants_are = h.tenants_are; named_are = named; release = h.release; steps_are = h.steps_are }
 
 -- nothing that is due has been done yet
 pub advances_first : (ds : List ℕ) (now : ℕ) (es : List Effect) (s : LiveState) → LiveIs ds es s → Advances ds now es s s

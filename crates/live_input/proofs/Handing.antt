@@ -67,6 +67,7 @@ beside_goes ds es s h devices pending clock =
       tenants_are = h.tenants_are;
       named_are = h.named_are;
       release = h.release;
+      steps_are = h.steps_are;
     }
 
 -- some of what had to be handed in is, and all of it was accepted or not; handing in the rest has the same result as

@@ -15,6 +15,8 @@ pub mod Emptied
 pub mod Shown
 pub mod Union
 pub mod Awaiting
+pub mod Noted
+pub mod Noting
 pub mod First
 pub mod Handing
 pub mod Asked
@@ -27,3 +29,6 @@ pub mod Fed
 pub mod Roomy
 pub mod Finishing
 pub mod Pinged
+pub mod Ordering
+pub mod Handouts
+pub mod InOrder

@@ -1,14 +1,16 @@
 -- What a client was sent is a complete stream by itself; what is kept of its channel.
-use Rattle.std.proofs.Common.{◌≡◌, ℕ, zero, ◌+◌, ◌-◌, suc, ◌≤◌, Bool, true, false, not, cond, List, [], ◌∷◌, ◌++◌, length, map, take, drop, reverse, Option, Some, None, refl, sym, ap, ◌∙◌, subst, arith, length-append}
+use Rattle.std.proofs.Common.{◌≡◌, ℕ, zero, ◌+◌, ◌-◌, suc, ◌≤◌, ◌<◌, Bool, true, false, not, cond, List, [], ◌∷◌, ◌++◌, length, map, take, drop, reverse, Option, Some, None, refl, sym, ap, ◌∙◌, subst, inl, inr, arith, length-append}
 use Rattle.std.specs.Prelude.{nat_lt, option_map, slice_get, IfSome}
 use Rattle.std.specs.Option.{option_and_then}
 use Rattle.std.proofs.Math.ListN.{drop_of_length-le}
+use Rattle.std.proofs.lemmas.Bool.{cases_lt}
 use Rattle.std.proofs.lemmas.List.{length-map, length-reverse, map-append, reverse-append}
 use Rattle.std.proofs.lemmas.Option.{slice_get-map}
 use Rattle.input_types.specs.declared.message.Message.{Message}
 use Rattle.input_types.specs.StreamRule.{stream_state, after_body}
 use Rattle.dispatch_calls.specs.declared.reply.Reply.TheVariants.{Gone, Empty}
 use Rattle.dispatch_history.specs.Effect.{Effect, past_of, stream, sent_on}
+use Rattle.dispatch_history.specs.Effects.{said_at}
 use Rattle.dispatch_history.specs.Focus.{requested}
 use Rattle.dispatch_history.specs.History.{clock, live, opened, received, snapshot, windows_after}
 use Rattle.dispatch_history.specs.Delivery.{delivery, published, unfinished}
@@ -19,9 +21,11 @@ use Rattle.dispatch_history.specs.Reply.{got_reply, receive_reply, reply_to}
 use Rattle.dispatch_history.proofs.WholeLaws.{numbers_law}
 use Rattle.dispatcher.specs.DispatchTables.Channel.{NumberedFrom}
 use Rattle.dispatcher.specs.DispatchTables.Lawful.{Lawful}
+use Rattle.dispatcher.proofs.DispatchTables.Ables.{opened_few}
 use Rattle.dispatcher.proofs.DispatchTables.Channels.{numbered, sound, stepped}
 use Rattle.dispatcher.proofs.DispatchTables.Kept.{channel_law}
 use Rattle.dispatcher.proofs.DispatchTables.Lawfuls.{lawful_last}
+use Rattle.dispatcher.proofs.DispatchTables.Unopened.{not_live_law, unopened_not_live}
 use Rattle.dispatcher.proofs.DispatchTables.Waiting.{with_delivery}
 use Rattle.dispatcher.specs.Access.{gone, got, messages_of}
 use Rattle.live_input.specs.declared.client.Seat.{Seat}
@@ -113,8 +117,9 @@ anrs_law ds es s h = let all = h.release.anrs_are in drop_of_length-le (anrs es)
 pub vacant_law : VacantLaw
 vacant_law ds es s c h low high none =
     let done = h.tenants_are.left c low high none in
+    let most = opened_few ds es (live_lawful ds es s h) in
     let all = done.received_all in (
-      not_shown es s.seats (snapshot (past_of es)) c h.tenants_are.shown none,
+      not_shown es s.seats (snapshot (past_of es)) c (omega (arith, high, most)) h.tenants_are.shown none,
       λ y less. not_asked s.seats c (requested (past_of es) y) none (h.tenants_are.asked y less),
       done.finished_all,
       kept_messages ds es s c h low high
@@ -125,8 +130,13 @@ pub closed_law : ClosedLaw
 closed_law ds call es s t c h k was is =
     let answer = reply_to es call in
     let l = live_lawful ds (answered ds call es) t k in
-    let silent = sent_nothing ds call answer es c l (not_shown es s.seats (snapshot (past_of es)) c h.tenants_are.shown was)
-    (not_shown (answered ds call es) t.seats (windows_after call (snapshot (past_of es))) c k.tenants_are.shown is) in
+    let most = opened_few ds (answered ds call es) l in
+    let silent : said_at ds call answer es c ≡ [] = elim (cases_lt 64 c) [
+      | inl above ↦ (not_live_law ds call answer es c l (unopened_not_live ds (answered ds call es) c l (omega (arith, above, most)))).0
+      | inr few ↦
+          sent_nothing ds call answer es c l (not_shown es s.seats (snapshot (past_of es)) c few h.tenants_are.shown was)
+          (not_shown (answered ds call es) t.seats (windows_after call (snapshot (past_of es))) c few k.tenants_are.shown is)
+    ] in
     (stepped ds call answer es c l (sound ds es c (lawful_last ds call answer es l).1)).stream_is
     ∙ ap (λ bs. sent_on (clock ((call, answer) ∷ past_of es)) bs (stream es c)) silent
 
@@ -142,7 +152,7 @@ numbered_get n (suc k) (x ∷ ms) m h e =
     let later = numbered_get (suc n) k ms m h.1 e in
     omega (arith, later)
 
-got_number : (es : List Effect) (c : ℕ) (m : Message) → NumberedFrom 0 (reverse (stream es c)) → got (receive_reply es c) ≡ Some m
+pub got_number : (es : List Effect) (c : ℕ) (m : Message) → NumberedFrom 0 (reverse (stream es c)) → got (receive_reply es c) ≡ Some m
     → m.seq ≡ received (past_of es) c + 1
 got_number es c m n =
     by_tests (live (past_of es) c) (nat_lt (received (past_of es) c) (published es c)) (slice_get (reverse (stream es c)) (received (past_of es) c))

@@ -204,6 +204,7 @@ live_roomy ds es s n d h same stands =
           tenants_are = h.tenants_are;
           named_are = h.named_are;
           release = record { messages_are = h.release.messages_are; anrs_are = h.release.anrs_are };
+          steps_are = h.steps_are;
         }
 
 -- it has it then

@@ -22,6 +22,8 @@ use Rattle.live_input.specs.declared.client.Seat.{Seat}
 use Rattle.live_input.specs.Seats.{IsHeld, with_seat}
 use Rattle.live_input.specs.Standing.{AreReleased, AreRequested, AreSeated, AreTenants, IsMaskOfHeld, IsOfHeld, IsOfSome, LiveIs, is_plain}
 use Rattle.live_input.specs.State.{LiveState}
+use Rattle.live_input.specs.Steps.{StepsAre}
+use Rattle.live_input.specs.declared.steps.Steps.{Steps}
 use Rattle.live_input.proofs.Tenants.{done_new, part_none, tenants_more}
 use Rattle.live_input.proofs.Vacant.{seated}
 
@@ -84,9 +86,9 @@ module _ (ds : List ℕ) (es : List Effect) (s : LiveState) (h : LiveIs ds es s)
 
   -- a plain call leaves everything kept beside the dispatcher
   pub plain_goes : (call : Call) → is_plain call ≡ true → IsOfHeld s.seats call
-      → StandsFor (answered ds call es) d → AreReleased (answered ds call es) d
-      → LiveIs ds (answered ds call es) (record s { dispatcher = d })
-  plain_goes call plain own stands release =
+      → StandsFor (answered ds call es) d → AreReleased (answered ds call es) d → (t : Steps) → StepsAre (answered ds call es) t
+      → LiveIs ds (answered ds call es) (record s { dispatcher = d; steps = t })
+  plain_goes call plain own stands release t steps =
       let h0 = past_of es in
       let r = reply_to es call in
       record {
@@ -103,19 +105,21 @@ module _ (ds : List ℕ) (es : List Effect) (s : LiveState) (h : LiveIs ds es s)
             h.seats_are;
         tenants_are =
             tenants_more ds call r es s.seats (lawful_of stands) h.tenants_are
-            (λ c named. h.tenants_are.shown c (ap (λ ws. is_named ws c) (sym (plain_windows call (snapshot h0) plain)) ∙ named))
+            (λ c few named. h.tenants_are.shown c few (ap (λ ws. is_named ws c) (sym (plain_windows call (snapshot h0) plain)) ∙ named))
             (λ y low. subst (λ o. IsOfSome o s.seats) (sym (plain_requested call y (requested h0 y) plain)) (h.tenants_are.asked y low))
             (λ c low high none. part_none s.seats call r c own none (λ limit k e f. absurd (true≢false (sym plain ∙ ap is_plain e))))
             (λ c lt le silent. let same_count = plain_opened call r (opened h0) plain in absurd (omega (arith, lt, le, same_count)));
         named_are = h.named_are;
         release = release;
+        steps_are = steps;
       }
 
   -- windows are shown
-  pub windows_go : (now : ℕ) (ws : List Window) (answer : Reply) → ((c : ℕ) → is_named ws c ≡ true → IsHeld c s.seats)
+  pub windows_go : (now : ℕ) (ws : List Window) (answer : Reply) → ((c : ℕ) → c ≤ 64 → is_named ws c ≡ true → IsHeld c s.seats)
       → StandsFor (step s.dispatcher.displays (Windows now ws) answer es) d → AreReleased (answered ds (Windows now ws) es) d
-      → (kept : List Window) → kept ≡ ws → LiveIs ds (answered ds (Windows now ws) es) (record s { dispatcher = d; windows = kept })
-  windows_go now ws answer own stands release kept is =
+      → (kept : List Window) → kept ≡ ws → (t : Steps) → StepsAre (answered ds (Windows now ws) es) t
+      → LiveIs ds (answered ds (Windows now ws) es) (record s { dispatcher = d; windows = kept; steps = t })
+  windows_go now ws answer own stands release kept is t steps =
       let h0 = past_of es in
       let r = reply_to es (Windows now ws) in
       let there = (stands_more (Windows now ws) answer stands).1 in
@@ -130,14 +134,16 @@ module _ (ds : List ℕ) (es : List Effect) (s : LiveState) (h : LiveIs ds es s)
             (λ c lt le silent. absurd (omega (arith, lt, le)));
         named_are = h.named_are;
         release = release;
+        steps_are = steps;
       }
 
   -- the focus is requested
   request_goes : (now y : ℕ) (channel : Option ℕ) (answer : Reply) → y < 4 → IsOfSome channel s.seats
       → StandsFor (step s.dispatcher.displays (FocusOn now y channel) answer es) d → AreReleased (answered ds (FocusOn now y channel) es) d
+      → (t : Steps) → StepsAre (answered ds (FocusOn now y channel) es) t
       → LiveIs ds (answered ds (FocusOn now y channel) es)
-      (record s { dispatcher = d; requested = slice_set s.requested y channel; asked = y })
-  request_goes now y channel answer low own stands release =
+      (record s { dispatcher = d; requested = slice_set s.requested y channel; asked = y; steps = t })
+  request_goes now y channel answer low own stands release t steps =
       let h0 = past_of es in
       let r = reply_to es (FocusOn now y channel) in
       let there = (stands_more (FocusOn now y channel) answer stands).1 in
@@ -160,6 +166,7 @@ module _ (ds : List ℕ) (es : List Effect) (s : LiveState) (h : LiveIs ds es s)
             (λ c lt le silent. absurd (omega (arith, lt, le)));
         named_are = h.named_are;
         release = release;
+        steps_are = steps;
       }
     where
       by_display : (z : ℕ) → z < 4 → slice_index_or (slice_set s.requested y channel) z None ≡ cond (z == y) channel (requested (past_of es) z)
@@ -178,24 +185,26 @@ module _ (ds : List ℕ) (es : List Effect) (s : LiveState) (h : LiveIs ds es s)
   -- by the place of the display among those that are kept
   pub request_goes_at : (now y : ℕ) (channel : Option ℕ) (answer : Reply) (place : ℕ) → place ≡ y → y < 4 → IsOfSome channel s.seats
       → StandsFor (step s.dispatcher.displays (FocusOn now y channel) answer es) d → AreReleased (answered ds (FocusOn now y channel) es) d
+      → (t : Steps) → StepsAre (answered ds (FocusOn now y channel) es) t
       → LiveIs ds (answered ds (FocusOn now y channel) es)
-      (record s { dispatcher = d; requested = slice_set s.requested place channel; asked = y })
-  request_goes_at now y channel answer place at low own stands release =
-      subst (λ n. LiveIs ds (answered ds (FocusOn now y channel) es) (record s { dispatcher = d; requested = slice_set s.requested n channel; asked = y }))
-      (sym at) (request_goes now y channel answer low own stands release)
+      (record s { dispatcher = d; requested = slice_set s.requested place channel; asked = y; steps = t })
+  request_goes_at now y channel answer place at low own stands release t steps =
+      subst (λ n. LiveIs ds (answered ds (FocusOn now y channel) es) (record s { dispatcher = d; requested = slice_set s.requested n channel; asked = y; steps = t }))
+      (sym at) (request_goes now y channel answer low own stands release t steps)
 
   -- the first channel that was not opened yet is opened
   pub open_goes : (limit : ℕ) (answer : Reply) → opened (past_of es) < 64
       → StandsFor (step s.dispatcher.displays (Open limit) answer es) d → AreReleased (answered ds (Open limit) es) d
+      → (t : Steps) → StepsAre (answered ds (Open limit) es) t
       → (opened (past_of (answered ds (Open limit) es)) ≡ suc (opened (past_of es)))
-      × LiveIs ds (answered ds (Open limit) es) (record s { dispatcher = d })
-  open_goes limit answer few stands release =
+      × LiveIs ds (answered ds (Open limit) es) (record s { dispatcher = d; steps = t })
+  open_goes limit answer few stands release t steps =
       let h0 = past_of es in
       let n = opened h0 in
       let there = stands_more (Open limit) answer stands in
       let fits : open_reply n ≡ Opened (n + 1) = ap (λ b. cond b (Opened (n + 1)) Full) (lt-ltb n 64 few) in
-      let P : Reply → Type 0 = λ r. StandsFor (step ds (Open limit) r es) d → AreReleased (step ds (Open limit) r es) d → (opened ((Open limit, r) ∷ h0) ≡ suc n) × LiveIs ds (step ds (Open limit) r es) (record s { dispatcher = d }) in
-      subst P (sym fits) by_opened there.1 release
+      let P : Reply → Type 0 = λ r. StandsFor (step ds (Open limit) r es) d → AreReleased (step ds (Open limit) r es) d → StepsAre (step ds (Open limit) r es) t → (opened ((Open limit, r) ∷ h0) ≡ suc n) × LiveIs ds (step ds (Open limit) r es) (record s { dispatcher = d; steps = t }) in
+      subst P (sym fits) by_opened there.1 release steps
     where
       opens : (c : ℕ) → 1 ≤ c → c ≤ suc (opened (past_of es)) → live ((Open limit, Opened (opened (past_of es) + 1)) ∷ past_of es) c ≡ true
       opens c low high =
@@ -210,8 +219,9 @@ module _ (ds : List ℕ) (es : List Effect) (s : LiveState) (h : LiveIs ds es s)
 
       by_opened : StandsFor (step ds (Open limit) (Opened (opened (past_of es) + 1)) es) d
           → AreReleased (step ds (Open limit) (Opened (opened (past_of es) + 1)) es) d
-          → (suc (opened (past_of es)) ≡ suc (opened (past_of es))) × LiveIs ds (step ds (Open limit) (Opened (opened (past_of es) + 1)) es) (record s { dispatcher = d })
-      by_opened stands release = (
+          → StepsAre (step ds (Open limit) (Opened (opened (past_of es) + 1)) es) t
+          → (suc (opened (past_of es)) ≡ suc (opened (past_of es))) × LiveIs ds (step ds (Open limit) (Opened (opened (past_of es) + 1)) es) (record s { dispatcher = d; steps = t })
+      by_opened stands release steps = (
         refl,
         record {
           stands = stands;
@@ -233,6 +243,7 @@ module _ (ds : List ℕ) (es : List Effect) (s : LiveState) (h : LiveIs ds es s)
               (λ c lt le silent. done_new ds limit (opened (past_of es) + 1) es c (lawful_of stands) silent lt);
           named_are = h.named_are;
           release = release;
+          steps_are = steps;
         },
       )
 
@@ -250,4 +261,5 @@ seat_goes ds es s h c seat from to high tenants n seats same mask named =
       tenants_are = subst (AreTenants es) (sym same) tenants;
       named_are = subst (IsMaskOfHeld mask) (sym same) named;
       release = h.release;
+      steps_are = h.steps_are;
     }

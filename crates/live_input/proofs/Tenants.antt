@@ -23,6 +23,7 @@ use Rattle.dispatcher.specs.DispatchTables.Lawful.{Lawful}
 use Rattle.dispatcher.proofs.DispatchTables.Channels.{channel_step}
 use Rattle.dispatcher.proofs.DispatchTables.Kept.{quiet_law}
 use Rattle.dispatcher.proofs.DispatchTables.Lawfuls.{lawful_last}
+use Rattle.dispatcher.proofs.DispatchTables.Ables.{opened_few}
 use Rattle.dispatcher.proofs.DispatchTables.Unopened.{unopened_law}
 use Rattle.live_input.specs.declared.client.Seat.{Seat}
 use Rattle.live_input.specs.Seats.{IsHeld, is_held, seat_of, with_seat}
@@ -107,11 +108,11 @@ done_new ds limit k es c l none lt =
     spare_none n = omega arith
 
 -- the window of a channel that no client holds is not shown
-pub not_shown : (es : List Effect) (seats : List Seat) (ws : List Window) (c : ℕ) → ((d : ℕ) → is_named ws d ≡ true → IsHeld d seats)
+pub not_shown : (es : List Effect) (seats : List Seat) (ws : List Window) (c : ℕ) → c ≤ 64 → ((d : ℕ) → d ≤ 64 → is_named ws d ≡ true → IsHeld d seats)
     → is_held (seat_of seats c) ≡ false → is_named ws c ≡ false
-not_shown es seats ws c shown e =
+not_shown es seats ws c few shown e =
     elim (cases_Bool (is_named ws c)) [
-      | inl y ↦ absurd (true≢false (sym (shown c y).2 ∙ e))
+      | inl y ↦ absurd (true≢false (sym (shown c few y).2 ∙ e))
       | inr n ↦ n
     ]
 
@@ -132,7 +133,7 @@ part_none seats call answer c own e new = refl
 
 -- which clients own the channels, with one more step
 pub tenants_more : (ds : List ℕ) (call : Call) (answer : Reply) (es : List Effect) (seats : List Seat) → Lawful ds (step ds call answer es) → AreTenants es seats
-    → ((c : ℕ) → is_named (windows_after call (snapshot (past_of es))) c ≡ true → IsHeld c seats)
+    → ((c : ℕ) → c ≤ 64 → is_named (windows_after call (snapshot (past_of es))) c ≡ true → IsHeld c seats)
     → ((y : ℕ) → y < 4 → IsOfSome (requested_after call y (requested (past_of es) y)) seats)
     → ((c : ℕ) → 1 ≤ c → c ≤ opened (past_of es) → is_held (seat_of seats c) ≡ false → part_of call answer c ≡ Untouched)
     → ((c : ℕ) → opened (past_of es) < c → c ≤ opened_after call answer (opened (past_of es)) → said_at ds call answer es c ≡ [] → IsDone (step ds call answer es) c)
@@ -142,8 +143,9 @@ tenants_more ds call answer es seats l t shown asked untouched new =
       shown = shown;
       asked = asked;
       left = λ c low high none.
-          let silent = sent_nothing ds call answer es c l (not_shown es seats (snapshot (past_of es)) c t.shown none)
-          (not_shown es seats (windows_after call (snapshot (past_of es))) c shown none) in
+          let few : c ≤ 64 = let most = opened_few ds (step ds call answer es) l in omega (arith, high, most) in
+          let silent = sent_nothing ds call answer es c l (not_shown es seats (snapshot (past_of es)) c few t.shown none)
+          (not_shown es seats (windows_after call (snapshot (past_of es))) c few shown none) in
           elim (cases_lt (opened (past_of es)) c) [
             | inl lt ↦ new c lt high silent
             | inr le ↦ done_more ds call answer es c l silent (untouched c low le none) (t.left c low le none)
@@ -157,7 +159,7 @@ pub tenants_less : (es : List Effect) (seats : List Seat) (c before : ℕ) → l
     → AreTenants es (with_seat c (record { holder = None; before = before }) seats)
 tenants_less es seats c before all from to t hidden unasked done =
     record {
-      shown = λ d named. stays d (other d named) (t.shown d named);
+      shown = λ d few named. stays d (other d named) (t.shown d few named);
       asked = λ y low. asks (requested (past_of es) y) (unasked y low) (t.asked y low);
       left = λ d low high none. elim (cases_eq d c) [
         | inl e ↦ subst (IsDone es) (sym e) done
@@ -190,7 +192,7 @@ pub tenants_new : (ds : List ℕ) (es : List Effect) (seats : List Seat) (c gene
     → AreTenants es (with_seat c (record { holder = Some generation; before = length (stream es c) }) seats)
 tenants_new ds es seats c generation l r a t from to high none =
     record {
-      shown = λ d named. stays d (t.shown d named);
+      shown = λ d few named. stays d (t.shown d few named);
       asked = λ y low. asks (requested (past_of es) y) (t.asked y low);
       left = λ d low up not. elim (cases_eq d c) [
         | inl e ↦ absurd (true≢false (sym (ap (λ n. is_held (seat_of (with_seat c seat seats) n)) e ∙ ap is_held (seat_set seats c seat a.all from to)) ∙ not))
@@ -227,6 +229,6 @@ tenants_new ds es seats c generation l r a t from to high none =
           older = stream es c;
           stream_is = refl;
           before_is = refl;
-          ended = unsent_law ds es c l r (a.lives c from high) (not_shown es seats (snapshot (past_of es)) c t.shown none);
+          ended = unsent_law ds es c l r (a.lives c from high) (not_shown es seats (snapshot (past_of es)) c to t.shown none);
           taken = omega (arith, all);
         }

@@ -1,4 +1,5 @@
 pub mod Seats
+pub mod Steps
 pub mod State
 pub mod Releases
 pub mod Standing
@@ -17,3 +18,6 @@ pub mod Opening
 pub mod Windows
 pub mod Laws
 pub mod Through
+pub mod Order
+pub mod HandingOut
+pub mod OrderLaws

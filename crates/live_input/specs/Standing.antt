@@ -17,6 +17,7 @@ use Rattle.dispatcher.specs.Dispatching.{Dispatching, StandsFor}
 use Rattle.live_input.specs.declared.client.Seat.{Seat}
 use Rattle.live_input.specs.Seats.{IsHeld, is_held, seat_of}
 use Rattle.live_input.specs.State.{LiveState}
+use Rattle.live_input.specs.Steps.{StepsAre}
 
 -- the focus was requested last for these channels, display by display, and last of all for this display
 pub record AreRequested (h : History) (channels : List (Option ℕ)) (display : ℕ) : Type 0 where
@@ -45,9 +46,9 @@ pub record Begins (es : List Effect) (c before : ℕ) : Type 0 where
   pub ended : stream_state older ≡ Some unsent
   pub taken : before ≤ received (past_of es) c
 
--- these are windows of open clients
+-- these are windows of open clients, and walls, whose numbers are above 64
 abbrev pub AreOfHeld : List Window → List Seat → Type 0
-AreOfHeld ws seats = (c : ℕ) → is_named ws c ≡ true → IsHeld c seats
+AreOfHeld ws seats = (c : ℕ) → c ≤ 64 → is_named ws c ≡ true → IsHeld c seats
 
 -- a mask of channels on which clients are open
 abbrev pub IsMaskOfHeld : ℕ → List Seat → Type 0
@@ -82,6 +83,7 @@ pub record LiveIs (displays : List ℕ) (es : List Effect) (s : LiveState) : Typ
   pub tenants_are : AreTenants es s.seats
   pub named_are : IsMaskOfHeld s.named s.seats
   pub release : AreReleased es s.dispatcher
+  pub steps_are : StepsAre es s.steps
 
 -- a call that shows no windows, requests no focus, and neither opens nor removes a channel
 abbrev pub is_plain : Call → Bool

@@ -5,20 +5,27 @@ use Rattle.window_snapshot.specs.declared.snapshot.SnapshotError.{SnapshotError}
 use Rattle.window_snapshot.specs.declared.snapshot.SnapshotError.TheVariants as snapshot
 use Rattle.window_snapshot.specs.declared.window.Window.{Window}
 use Rattle.window_snapshot.specs.Snapshot.{snapshot_of}
+use Rattle.window_snapshot.specs.Walls.{wall_on}
 use Rattle.dispatch_calls.specs.declared.call.Call.TheVariants.{Windows}
 use Rattle.dispatch_history.specs.Effect.{Effect}
+use Rattle.live_input.specs.declared.client.Client.{Client}
 use Rattle.live_input.specs.declared.client.Seat.{Seat}
 use Rattle.live_input.specs.declared.refused.WindowsRefused.{WindowsRefused}
 use Rattle.live_input.specs.declared.refused.WindowsRefused.TheVariants.{NotOpen, TooMany, Twice, Memory}
 use Rattle.live_input.specs.declared.windows.ClientWindow.{ClientWindow}
-use Rattle.live_input.specs.Seats.{is_open}
+use Rattle.live_input.specs.Showing.{may_ask}
 use Rattle.live_input.specs.Answers.{Makes}
 use Rattle.live_input.specs.State.{LiveState}
 
--- the window by its channel
+-- the channel of a client, or the number of the walls of the display if there is none
+abbrev pub number_of : Option Client → (display : ℕ) → ℕ
+number_of None y = wall_on y
+number_of (Some k) y = k.channel
+
+-- the window by its channel; a window of no client is a wall
 abbrev pub window_of : ClientWindow → Window
 window_of w = record {
-  channel = w.client.channel;
+  channel = number_of w.client w.display;
   display = w.display;
   frame = w.frame;
   region = w.region;
@@ -30,7 +37,7 @@ window_of w = record {
 
 -- the index of the first window whose client is not open
 abbrev pub first_stale : List Seat → List ClientWindow → Option ℕ
-first_stale seats ws = position (λ w. not (is_open seats w.client)) ws
+first_stale seats ws = position (λ w. not (may_ask seats w.client)) ws
 
 -- The windows make a snapshot if they can. Memory may run out at any time.
 abbrev pub IsSnapshotOf : List Window → Result (List Window) SnapshotError → Type 0

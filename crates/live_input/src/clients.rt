@@ -86,12 +86,16 @@ impl Live {
             → OnOk result (channel ≤ opened (past_of (opening ds self.old.limit channel es))) }
         ensures sent { (ds : List ℕ) (es : List Effect) → LiveIs ds es self.old → IsNext channel es
             → IfOk result (λ n. n ≡ length (stream (opening ds self.old.limit channel es) channel)) }
-        ensures rest { self.new ≡ record self.old { dispatcher = self.new.dispatcher } }
+        ensures rest { self.new ≡ record self.old { dispatcher = self.new.dispatcher; steps = self.new.steps } }
         ensures err { OnErr result (self.new ≡ self.old) }
     {
         if self.dispatcher.opened() < channel {
-            match self.dispatcher.apply(&Call::Open { limit: self.limit }) {
-                Ok(_) => Ok(sent(&self.dispatcher, channel)),
+            let call = Call::Open { limit: self.limit };
+            match self.dispatcher.apply(&call) {
+                Ok(_) => {
+                    self.steps.go(&self.dispatcher, &call);
+                    Ok(sent(&self.dispatcher, channel))
+                }
                 Err(error) => Err(error),
             }
         } else {

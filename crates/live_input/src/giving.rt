@@ -172,6 +172,7 @@ impl Live {
         ensures room { OnOk result (self.old.dispatcher.queue.spare ≤ self.new.dispatcher.queue.spare + 1) }
     {
         let outcome = self.dispatcher.notify(now, &args)?;
+        self.steps.pass();
         Ok(is_taken(outcome))
     }
 

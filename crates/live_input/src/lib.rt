@@ -33,16 +33,19 @@ mod giving;
 pub mod laws;
 mod live;
 mod messages;
+mod next_any;
 mod plugging;
 mod refused;
 mod releasing;
 mod settling;
 mod showing;
+mod steps;
 pub mod through;
 mod windows;
 
 pub use client::Client;
 pub use live::Live;
+pub use next_any::Handed;
 pub use refused::{
     AddRefused, ArgsRefused, CloseRefused, FinishRefused, FocusRefused, OpenRefused, PilferRefused,
     WindowsRefused,

@@ -12,6 +12,7 @@ ghost use Rattle.live_input.specs.State.{latest};
 
 use crate::client::Seat;
 use crate::releasing::release_after;
+use crate::steps::Steps;
 use device_table::DeviceTable;
 use dispatch_calls::{Call, Reply};
 use dispatcher::Dispatcher;
@@ -44,6 +45,8 @@ pub struct Live {
     pub(crate) devices: DeviceTable,
     /// What devices gave that must still be handed in, oldest first. It is empty unless memory ran out.
     pub(crate) pending: Vec<Args>,
+    /// The steps at which messages were published.
+    pub(crate) steps: Steps,
 }
 
 impl Model for Live {
@@ -63,6 +66,7 @@ impl Model for Live {
       named = l.named;
       devices = l.devices;
       pending = l.pending.items;
+      steps = l.steps;
     } };
 }
 
@@ -93,6 +97,7 @@ impl Live {
             named: 0,
             devices: DeviceTable::new(),
             pending: Vec::new(alloc),
+            steps: Steps::new(),
         })
     }
 
@@ -113,7 +118,7 @@ impl Live {
             → IsOfHeld self.old.seats call.now → OnOk result (LiveIs ds (answered ds call.now es) self.new) }
         ensures reply { (ds : List ℕ) (es : List Effect) → LiveIs ds es self.old
             → IfOk result (λ answer. answer ≡ reply_to es call.now) }
-        ensures rest { self.new ≡ record self.old { dispatcher = self.new.dispatcher } }
+        ensures rest { self.new ≡ record self.old { dispatcher = self.new.dispatcher; steps = self.new.steps } }
         ensures err { OnErr result (self.new ≡ self.old) }
         ensures calm { AnswersCalm call.now self.old.dispatcher result }
         ensures pumped { AnswersPumped call.now self.old.dispatcher result }
@@ -124,6 +129,7 @@ impl Live {
     {
         match self.dispatcher.apply(call) {
             Ok(reply) => {
+                self.steps.go(&self.dispatcher, call);
                 release_after(&mut self.dispatcher, call);
                 Ok(reply)
             }

@@ -19,8 +19,8 @@ use std::alloc::AllocError;
 use window_snapshot::{Snapshot, SnapshotError};
 
 impl Live {
-    /// Replaces the windows by these, front to back. A window whose client is not open is refused before any other
-    /// reason.
+    /// Replaces the windows by these, front to back; one of no client is a wall. A window whose client is not open is
+    /// refused before any other reason.
     pub fn windows(&mut self, now: Moment, windows: Vec<ClientWindow>) -> Result<(), WindowsRefused>
         ensures after { (ds : List ℕ) (es : List Effect) → LiveIs ds es self.old
             → WindowsGo ds (latest now self.old) windows.items es result self.old self.new }
@@ -45,7 +45,7 @@ impl Live {
         }
     }
 
-    /// Replaces the windows by these, all of open clients. If memory runs out, nothing changes.
+    /// Replaces the windows by these, all of open clients or of nobody. If memory runs out, nothing changes.
     pub(crate) fn show(&mut self, now: Moment, snapshot: Snapshot) -> Result<(), AllocError>
         ensures after { (ds : List ℕ) (es : List Effect) → LiveIs ds es self.old
             → AreOfHeld snapshot self.old.seats
@@ -57,6 +57,7 @@ impl Live {
     {
         match self.dispatcher.show(now, &snapshot) {
             Ok(_) => {
+                self.steps.go_all(&self.dispatcher);
                 self.windows = snapshot;
                 Ok(())
             }
@@ -81,6 +82,7 @@ impl Live {
     {
         match self.dispatcher.request(now, display, channel) {
             Ok(_) => {
+                self.steps.go_all(&self.dispatcher);
                 self.requested[usize::from(display.get())] = channel;
                 self.asked = display;
                 Ok(())
@@ -118,7 +120,7 @@ impl Live {
 }
 
 /// Whether this is no client, or an open one.
-fn may_ask(seats: &[Seat; 64], client: Option<Client>) -> bool
+pub(crate) fn may_ask(seats: &[Seat; 64], client: Option<Client>) -> bool
     ensures { result ≡ may_ask seats.now client }
 {
     match client {

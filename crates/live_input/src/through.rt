@@ -59,7 +59,7 @@ impl Live {
             → OnOk result (Settles ds (next_through now channel last) es self.new) }
         ensures stops { (ds : List ℕ) (es : List Effect) → LiveIs ds es self.old → IsHeld channel self.old.seats
             → OnErr result (Stops ds (next_through now channel last) es self.new) }
-        ensures rest { self.new ≡ record self.old { dispatcher = self.new.dispatcher } }
+        ensures rest { self.new ≡ record self.old { dispatcher = self.new.dispatcher; steps = self.new.steps } }
     {
         for made in 0..u64::MAX {
             let Some(call) = next_through(&self.dispatcher, now, channel, last) else {
@@ -75,7 +75,7 @@ impl Live {
     fn make_calm(&mut self, call: &Call) -> Result<(), AllocError>
         ensures after { (ds : List ℕ) (es : List Effect) → LiveIs ds es self.old → is_plain call.now ≡ true
             → IsOfHeld self.old.seats call.now → OnOk result (LiveIs ds (answered ds call.now es) self.new) }
-        ensures rest { self.new ≡ record self.old { dispatcher = self.new.dispatcher } }
+        ensures rest { self.new ≡ record self.old { dispatcher = self.new.dispatcher; steps = self.new.steps } }
         ensures err { OnErr result (self.new ≡ self.old) }
         ensures calm { AnswersCalm call.now self.old.dispatcher result }
     {

@@ -46,7 +46,7 @@ pub(crate) fn window(alloc: Global, client: Client, frame: Rect) -> Option<Clien
     let mut rects = Vec::new(alloc);
     rects.push(frame).ok()?;
     Some(ClientWindow {
-        client,
+        client: Some(client),
         display: DisplayId::zero(),
         frame,
         region: Region::new(rects).ok()?,

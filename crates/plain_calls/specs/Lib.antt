@@ -16,3 +16,4 @@ pub mod Showing
 pub mod Asking
 pub mod Laws
 pub mod Through
+pub mod NextAny

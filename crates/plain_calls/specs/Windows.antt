@@ -8,7 +8,7 @@ use Rattle.touch_region.specs.Region.{region_of}
 use Rattle.window_snapshot.specs.declared.occlusion.Occlusion.{Occlusion}
 use Rattle.live_input.specs.declared.windows.ClientWindow.{ClientWindow}
 use Rattle.plain_calls.specs.Calling.{ok_of}
-use Rattle.plain_calls.specs.Clients.{client_of}
+use Rattle.plain_calls.specs.Clients.{maybe_client}
 use Rattle.plain_calls.specs.Numbers.{display_of, occlusion_of, percent_of}
 use Rattle.plain_calls.specs.declared.windows.PlainRect.{PlainRect}
 use Rattle.plain_calls.specs.declared.windows.PlainWindow.{PlainWindow}
@@ -23,10 +23,10 @@ rect_of r = record { left = r.left; top = r.top; right = r.right; bottom = r.bot
 abbrev pub region_from : List PlainRect → Option (List Rect)
 region_from rects = ok_of (region_of (map rect_of rects))
 
--- a window with this opacity, occlusion and region
+-- a window with this opacity, occlusion and region; one whose client has the channel 0 is a wall
 abbrev pub window_with : PlainWindow → (display opacity : ℕ) → Occlusion → (region : List Rect) → ClientWindow
 window_with w y opacity occlusion region = record {
-  client = client_of w.client;
+  client = maybe_client w.client;
   display = y;
   frame = rect_of w.frame;
   region = region;

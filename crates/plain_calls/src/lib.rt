@@ -26,6 +26,7 @@ pub mod laws;
 mod layouts;
 mod message;
 pub mod messages;
+pub mod next_any;
 mod numbers;
 pub mod plugging;
 mod pointers;

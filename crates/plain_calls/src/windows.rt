@@ -22,10 +22,11 @@ pub struct PlainRect {
     pub bottom: i32,
 }
 
-/// A window of a client: `struct inputflinger_window`.
+/// A window of a client, or of nobody: `struct inputflinger_window`.
 #[repr(C)]
 #[derive(Clone, Copy, Debug)]
 pub struct PlainWindow {
+    /// Channel 0 for a wall, a window of nobody.
     pub client: PlainClient,
     /// Its left and top edges are the origin of what the client is sent.
     pub frame: PlainRect,
@@ -112,7 +113,7 @@ impl PlainWindow {
         ensures { result ≡ window_with self.now display opacity occlusion region }
     {
         ClientWindow {
-            client: self.client.read(),
+            client: self.client.read_if_any(),
             display,
             frame: rect_of(&self.frame),
             region,

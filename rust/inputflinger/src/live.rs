@@ -16,6 +16,10 @@ pub struct Client {
 }
 
 impl Client {
+    /// No client: a window of it is a wall, which is touched as others are, and nobody is given what it takes. It is never
+    /// open.
+    pub const NOBODY: Client = Client { plain: sys::Client { generation: 0, channel: 0 } };
+
     /// The number of its channel: bit `channel - 1` of a mask stands for it.
     pub fn channel(&self) -> u32 {
         self.plain.channel
@@ -81,7 +85,10 @@ pub enum Occlusion {
     Allow = 2,
 }
 
-/// A window of a client, which has one at most.
+/// A window of a client, which has one at most, or of [`Client::NOBODY`], a wall.
+///
+/// Show a wall for a client that could not be opened, or touches fall through to the window behind. It is no spy, does not
+/// watch, does not prevent splitting, and has no focus.
 #[derive(Clone, Copy, Debug)]
 pub struct Window<'a> {
     /// Whose it is.
@@ -126,6 +133,17 @@ pub struct Received {
     pub moment_us: u64,
     /// What it says.
     pub body: Body,
+}
+
+/// What [`Live::next_any`] hands out.
+#[derive(Clone, Debug, PartialEq, Eq)]
+pub struct Handed {
+    /// Whose message it is.
+    pub client: Client,
+    /// The message.
+    pub received: Received,
+    /// Whether no message of the same step is left to hand out now.
+    pub last: bool,
 }
 
 /// What a message says.
@@ -601,6 +619,29 @@ impl Live {
             sys::inputflinger_live_next_sized(live, &client.plain, &mut message, size)
         };
         Ok(found(status, message)?.map(|message| Received::of(&message)))
+    }
+
+    /// Hands out the next message of any client, in the order in which the service sent them; None if no client has one.
+    /// Each client gets the messages that [`next`](Live::next) would hand it, in the same order. The messages of an
+    /// earlier step come first; of one step, motions come before keys and keys before the focus, of each what ends comes
+    /// first, then what goes on, then what begins, and then the lesser channel comes first.
+    ///
+    /// # Errors
+    ///
+    /// `NoMemory`, only if the calls can no longer be counted in 64 bits.
+    pub fn next_any(&mut self) -> Result<Option<Handed>, LiveError> {
+        let (mut plain, mut message) = (sys::Client::default(), sys::Message::default());
+        let mut last = false;
+        // SAFETY: as above.
+        let status = unsafe {
+            let (live, size) = (&mut self.handle, size_of::<sys::Message>());
+            sys::inputflinger_live_next_any_sized(live, &mut plain, &mut message, size, &mut last)
+        };
+        Ok(found(status, message)?.map(|message| Handed {
+            client: Client { plain },
+            received: Received::of(&message),
+            last,
+        }))
     }
 
     /// A client finishes the message with this number, which it received.

@@ -272,6 +272,13 @@ extern "C" {
         message: *mut Message,
         message_size: usize,
     ) -> i32;
+    pub fn inputflinger_live_next_any_sized(
+        live: *mut Live,
+        client: *mut Client,
+        message: *mut Message,
+        message_size: usize,
+        last: *mut bool,
+    ) -> i32;
     pub fn inputflinger_live_finish(
         live: *mut Live,
         now_us: u64,

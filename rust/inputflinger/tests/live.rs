@@ -71,6 +71,25 @@ fn a_window_of_another_owner_blocks_or_marks_a_touch() -> Result<(), LiveError> 
 }
 
 #[test]
+fn a_wall_takes_touches_that_nobody_is_given() -> Result<(), LiveError> {
+    let mut live = Live::new(5_000_000, [0; 8])?;
+    let device = live.add_touch(0, 10, &PANEL)?;
+    let client = live.open()?;
+    let wall = window(inputflinger::Client::NOBODY, 0);
+    let finger = [Pointer { id: 0, x: 540, y: 1200 }];
+    live.windows(1_000, &[wall, wall, window(client, 0)])?;
+    for action in [Action::Down, Action::Up] {
+        live.args(1_000, &Message::motion(0, Motion::new(device, action, &finger)))?;
+    }
+    assert_eq!(live.next(client)?, None);
+    live.windows(2_000, &[window(client, 0)])?;
+    live.args(2_000, &Message::motion(0, Motion::new(device, Action::Down, &finger)))?;
+    assert!(live.next(client)?.is_some());
+    assert!(!live.is_open(inputflinger::Client::NOBODY));
+    Ok(())
+}
+
+#[test]
 fn clients_come_and_go() -> Result<(), LiveError> {
     let mut live = Live::new(5_000_000, [0; 8])?;
     let first = live.open()?;
@@ -134,6 +153,34 @@ fn a_finger_that_a_spy_pilfers() -> Result<(), LiveError> {
     assert_eq!(live.args(3000, &up), Err(LiveError::Inconsistent));
     live.reset(3000, device)?;
     assert_eq!(live.clock(), 3000);
+    Ok(())
+}
+
+#[test]
+fn messages_come_in_the_order_of_the_steps() -> Result<(), LiveError> {
+    let mut live = Live::new(1_000_000, [0; 8])?;
+    let (left, right) = (live.open()?, live.open()?);
+    live.windows(0, &[window(left, 0), window(right, 0)])?;
+    assert_eq!(live.next_any()?, None);
+    live.focus(0, 0, Some(right))?;
+    live.focus(0, 0, Some(left))?;
+    let mut told = Vec::new();
+    while let Some(handed) = live.next_any()? {
+        told.push((
+            handed.client,
+            handed.received.seq,
+            handed.received.body,
+            handed.last,
+        ));
+    }
+    assert_eq!(
+        told,
+        [
+            (right, 1, Body::Focus(true), true),
+            (right, 2, Body::Focus(false), false),
+            (left, 1, Body::Focus(true), true),
+        ]
+    );
     Ok(())
 }
 

@@ -1,6 +1,7 @@
 -- A call that is made leaves what is kept beside the dispatcher.
 use Rattle.std.proofs.Common.{◌+◌, ◌≤◌, sym, ap, ◌∙◌, subst}
 use Rattle.dispatch_history.specs.Legal.{answered}
+use Rattle.dispatcher.proofs.Laws.Standing.{after_of}
 use Rattle.dispatcher.proofs.Made.Following.{stands_with}
 use Rattle.dispatcher.specs.Dispatching.{IsAfter}
 use Rattle.dispatcher.specs.Queue.{Queue}
@@ -22,6 +23,7 @@ returns-in-Ok-clause-after c = λ ds es h plain own.
     plain_goes ds es _ before c.release_after.new.dispatcher (c.release_after.ensures.displays ∙ c.in-Ok.ensures.ok.goes.displays_are) call plain held
     (c.release_after.ensures.stays fs there)
     (c.release_after.ensures.all fs there (from_live ds es _ call before.seats_are held) but)
+    c.go.new.self (c.go.ensures ds es (c.in-Ok.ensures.ok.goes.displays_are ∙ before.displays_are) (after_of fs _ there) before.steps_are)
 
 pub returns-in-Ok-clause-reply : goal.returns-in-Ok-clause-reply
 returns-in-Ok-clause-reply c = λ ds es h.

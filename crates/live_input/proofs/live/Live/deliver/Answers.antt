@@ -1,7 +1,6 @@
 -- What is handed in is dispatched.
 use Rattle.std.proofs.lemmas.Bool.{true≢false}
-use Rattle.std.proofs.Common.{◌≡◌, ◌+◌, ◌-◌, ◌≤◌, ◌<◌, ◌^◌, arith, false, length, sym, ap, ◌∙◌, inl, inr}
-use Rattle.dispatch_history.specs.Effect.{Effect}
+use Rattle.std.proofs.Common.{arith, length, sym, ap, ◌∙◌, inl, inr}
 use Rattle.live_input.specs.Giving.{notified}
 use Rattle.live_input.proofs.Roomy.{counted, idle, room_left}
 use Rattle.live_input.proofs.live.Live.deliver.Goals as goal

@@ -33,7 +33,7 @@ loop-made-preserved c =
           (c.in_ok-make_calm.ensures.after ds fs r.is easy.plain easy.own) in
           let many = y.1 in
           (y.0, omega (arith, many));
-      rest = c.make_calm.ensures.rest ∙ ap (λ (s : LiveState). record s { dispatcher = c.make_calm.new.self.dispatcher }) c.loop-made.invariant.rest;
+      rest = c.make_calm.ensures.rest ∙ ap (λ (s : LiveState). record s { dispatcher = c.make_calm.new.self.dispatcher; steps = c.make_calm.new.self.steps }) c.loop-made.invariant.rest;
     }
 
 pub returns-in_default-clause-done : goal.returns-in_default-clause-done

@@ -12,5 +12,5 @@ invariant-loop-made l =
     record {
       reaches : (ds : List ℕ) (es : List Effect) → LiveIs ds es l.initial.self → IsHeld l.channel l.initial.self.seats
           → (r : Reaches ds (next_through l.now l.channel l.last) es l.self) × (length r.calls ≡ l.made);
-      rest : l.self ≡ record l.initial.self { dispatcher = l.self.dispatcher };
+      rest : l.self ≡ record l.initial.self { dispatcher = l.self.dispatcher; steps = l.self.steps };
     }

@@ -26,7 +26,7 @@ returns-in-Ok-clause-after c = λ ds es h is.
     let still = subst (IsHeld k) (sym (ap (λ (s : LiveState). s.seats) rest)) held in
     through_same ds c.raise-now.result (latest c.args.now c.args.self.now) k c.number_of-last.result (number_of (seat_of c.args.self.now.seats k) c.args.seq) es (Ok tt) c.args.self.now c.finish_all.new.self c.raise-now.ensures.latest number (
       got,
-      ap (λ (s : LiveState). s.clock) (c.finish_all.ensures.rest ∙ ap (λ (s : LiveState). record s { dispatcher = c.finish_all.new.self.dispatcher }) rest)
+      ap (λ (s : LiveState). s.clock) (c.finish_all.ensures.rest ∙ ap (λ (s : LiveState). record s { dispatcher = c.finish_all.new.self.dispatcher; steps = c.finish_all.new.self.steps }) rest)
           ∙ sym c.raise-now.ensures.latest,
       c.in-Ok.ensures.done ds es raised still,
     )
@@ -46,7 +46,19 @@ returns-in-Err-clause-after c = λ ds es h is.
     let still = subst (IsHeld k) (sym (ap (λ (s : LiveState). s.seats) rest)) held in
     through_same ds c.raise-now.result (latest c.args.now c.args.self.now) k c.number_of-last.result (number_of (seat_of c.args.self.now.seats k) c.args.seq) es (Err Memory) c.args.self.now c.finish_all.new.self c.raise-now.ensures.latest number (
       got,
-      ap (λ (s : LiveState). s.clock) (c.finish_all.ensures.rest ∙ ap (λ (s : LiveState). record s { dispatcher = c.finish_all.new.self.dispatcher }) rest)
+      ap (λ (s : LiveState). s.clock) (c.finish_all.ensures.rest ∙ ap (λ (s : LiveState). record s { dispatcher = c.finish_all.new.self.dispatcher; steps = c.finish_all.new.self.steps }) rest)
           ∙ sym c.raise-now.ensures.latest,
       c.in-Err.ensures.stops ds es raised still,
+    )
+
+pub returns-then-not-has_received-clause-after : goal.returns-then-not-has_received-clause-after
+returns-then-not-has_received-clause-after c = λ ds es h is.
+    let k = c.args.client.channel in
+    let number : c.number_of-last.result ≡ number_of (seat_of c.args.self.now.seats k) c.args.seq =
+    c.number_of-last.ensures ∙ ap (λ s. number_of s c.args.seq) (c.seat_of.ensures ∙ ap (λ (s : LiveState). seat_of s.seats k) c.self.view_is) in
+    let there = subst (LiveIs ds es) (sym c.self.view_is) h in
+    let held = open_held c.args.self.now.seats c.args.client is in
+    let opened = held_opened es _ _ k h.seats_are refl held.0 held.1 held.2 in (
+      ap (λ n. has_received k n es) (sym number) ∙ sym (c.has_received.ensures es (after_of es _ there.stands) opened) ∙ c.if-not-has_received.true,
+      refl,
     )

@@ -29,7 +29,7 @@ returns-clause-after c = λ ds es h.
     sym (ap (λ ws. is_named ws c.args.channel) (c.windows.ensures.windows ∙ kept)) ∙ sym c.has_window.ensures in
     let own =
     subst (λ ws. AreOfHeld ws c.args.self.now.seats) (sym (c.in_ok-others.ensures ∙ ap (without c.args.channel) kept))
-    (λ d is. h.tenants_are.shown d (named_less c.args.channel d (snapshot (past_of es)) is)) in
+    (λ d low is. h.tenants_are.shown d low (named_less c.args.channel d (snapshot (past_of es)) is)) in
     subst (λ b. OnOk c.show.result (LiveIs ds (cond b (answered ds (Windows c.args.now (without c.args.channel (snapshot (past_of es)))) es) es) c.show.new.self))
     (sym (named ∙ c.if-not-has_window.false))
     (subst (λ ws. OnOk c.show.result (LiveIs ds (answered ds (Windows c.args.now ws) es) c.show.new.self))

@@ -11,7 +11,7 @@ use Rattle.live_input.specs.Standing.{LiveIs}
 use Rattle.live_input.specs.State.{LiveState}
 use Rattle.live_input.proofs.Opened.{opening_new, opening_old, opening_live, opened_at}
 use Rattle.live_input.proofs.Released.{release_same}
-use Rattle.live_input.proofs.Stepping.{open_goes}
+use Rattle.live_input.proofs.Stepping.{open_goes, stands_more}
 use Rattle.live_input.proofs.live.Live.open_channel.Goals as goal
 
 pub returns-in-Ok-clause-after : goal.returns-in-Ok-clause-after
@@ -22,7 +22,10 @@ returns-in-Ok-clause-after c = λ ds es h next.
     let to = next.to in
     let few : opened (past_of es) < 64 = omega (arith, lt, to) in
     let release = release_same ds es (Open c.self.inside.limit) c.self.inside.dispatcher c.apply.new.self refl refl before.release c.in-Ok.ensures.ok.goes.gone_are c.in-Ok.ensures.ok.goes.anrs_are in
-    let x = open_goes ds es _ before c.apply.new.self c.in-Ok.ensures.ok.goes.displays_are c.self.inside.limit c.in-Ok.field-0 few (stands_with _ _ _ _ c.in-Ok.ensures.ok es before.stands) release in
+    let stands = stands_with _ _ _ _ c.in-Ok.ensures.ok es before.stands in
+    let there = (stands_more ds es _ before c.apply.new.self c.in-Ok.ensures.ok.goes.displays_are (Open c.self.inside.limit) c.in-Ok.field-0 stands).1 in
+    let steps = c.go.ensures ds es (c.in-Ok.ensures.ok.goes.displays_are ∙ before.displays_are) (after_of _ _ there) before.steps_are in
+    let x = open_goes ds es _ before c.apply.new.self c.in-Ok.ensures.ok.goes.displays_are c.self.inside.limit c.in-Ok.field-0 few stands release c.go.new.self steps in
     opening_live ds c.self.inside.limit c.args.self.now.limit c.args.channel es _ (ap (λ (s : LiveState). s.limit) c.self.view_is) lt x.1
 
 pub returns-in-Ok-clause-sent : goal.returns-in-Ok-clause-sent
@@ -33,7 +36,10 @@ returns-in-Ok-clause-sent c = λ ds es h next.
     let to = next.to in
     let few : opened (past_of es) < 64 = omega (arith, lt, to) in
     let release = release_same ds es (Open c.self.inside.limit) c.self.inside.dispatcher c.apply.new.self refl refl before.release c.in-Ok.ensures.ok.goes.gone_are c.in-Ok.ensures.ok.goes.anrs_are in
-    let x = open_goes ds es _ before c.apply.new.self c.in-Ok.ensures.ok.goes.displays_are c.self.inside.limit c.in-Ok.field-0 few (stands_with _ _ _ _ c.in-Ok.ensures.ok es before.stands) release in
+    let stands = stands_with _ _ _ _ c.in-Ok.ensures.ok es before.stands in
+    let there = (stands_more ds es _ before c.apply.new.self c.in-Ok.ensures.ok.goes.displays_are (Open c.self.inside.limit) c.in-Ok.field-0 stands).1 in
+    let steps = c.go.ensures ds es (c.in-Ok.ensures.ok.goes.displays_are ∙ before.displays_are) (after_of _ _ there) before.steps_are in
+    let x = open_goes ds es _ before c.apply.new.self c.in-Ok.ensures.ok.goes.displays_are c.self.inside.limit c.in-Ok.field-0 few stands release c.go.new.self steps in
     let more = next.next in
     let grown = x.0 in
     let fs = answered ds (Open c.self.inside.limit) es in
@@ -50,7 +56,10 @@ returns-in-Ok-clause-opened c = λ ds es h next.
     let to = next.to in
     let few : opened (past_of es) < 64 = omega (arith, lt, to) in
     let release = release_same ds es (Open c.self.inside.limit) c.self.inside.dispatcher c.apply.new.self refl refl before.release c.in-Ok.ensures.ok.goes.gone_are c.in-Ok.ensures.ok.goes.anrs_are in
-    let x = open_goes ds es _ before c.apply.new.self c.in-Ok.ensures.ok.goes.displays_are c.self.inside.limit c.in-Ok.field-0 few (stands_with _ _ _ _ c.in-Ok.ensures.ok es before.stands) release in
+    let stands = stands_with _ _ _ _ c.in-Ok.ensures.ok es before.stands in
+    let there = (stands_more ds es _ before c.apply.new.self c.in-Ok.ensures.ok.goes.displays_are (Open c.self.inside.limit) c.in-Ok.field-0 stands).1 in
+    let steps = c.go.ensures ds es (c.in-Ok.ensures.ok.goes.displays_are ∙ before.displays_are) (after_of _ _ there) before.steps_are in
+    let x = open_goes ds es _ before c.apply.new.self c.in-Ok.ensures.ok.goes.displays_are c.self.inside.limit c.in-Ok.field-0 few stands release c.go.new.self steps in
     let more = next.next in
     let grown = x.0 in
     let high : c.args.channel ≤ opened (past_of (answered ds (Open c.self.inside.limit) es)) = omega (arith, more, grown) in
@@ -64,3 +73,10 @@ returns-clause-opened c = λ ds es h next.
     let count = c.opened.ensures.value es (after_of es c.self.inside.dispatcher before.stands) in
     let le : c.args.channel ≤ opened (past_of es) = omega (arith, c.if-opened-channel.false, count) in
     subst (λ fs. c.args.channel ≤ opened (past_of fs)) (opening_old ds c.args.self.now.limit c.args.channel es le) le
+
+pub returns-clause-after : goal.returns-clause-after
+returns-clause-after c = λ ds es h next.
+    let before = subst (LiveIs ds es) (sym c.self.view_is) h in
+    let count = c.opened.ensures.value es (after_of es c.self.inside.dispatcher before.stands) in
+    let le : c.args.channel ≤ opened (past_of es) = omega (arith, c.if-opened-channel.false, count) in
+    subst (λ fs. LiveIs ds fs c.args.self.now) (opening_old ds c.args.self.now.limit c.args.channel es le) h

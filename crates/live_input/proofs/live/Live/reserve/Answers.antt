@@ -1,5 +1,5 @@
 -- The dispatcher has the room.
-use Rattle.std.proofs.Common.{◌≤◌, ◌*◌, sym, ap, subst}
+use Rattle.std.proofs.Common.{◌≤◌, ◌*◌, sym, subst}
 use Rattle.std.proofs.lemmas.Bool.{true≢false}
 use Rattle.live_input.specs.Room.{most_args}
 use Rattle.live_input.specs.Standing.{LiveIs}
