@@ -6,12 +6,14 @@ import rectangles
 import session_trust
 from session_text import channel_name, comment, numbers, table
 
-MOST_CHANNELS, MOST_RECTANGLES, LAST_LIMIT = 64, 64, 600000
+MOST_WINDOWS, MOST_RECTANGLES, LAST_LIMIT = 64, 64, 600000
+# A window that has no input channel, so that touches on it are dropped, is a wall.
+WALL = "NO_INPUT_CHANNEL"
+WALL_FLAGS = ("NOT_TOUCHABLE", "NOT_FOCUSABLE", "TRUSTED_OVERLAY")
 FLAGS = ("NOT_TOUCHABLE", "SPY", "PREVENT_SPLITTING", "SLIPPERY", "WATCH_OUTSIDE_TOUCH", "NOT_FOCUSABLE", "TRUSTED_OVERLAY")
 
 # What Android says of a window that changes what windows are told, and that a session cannot say.
 UNSAID = {
-    "NO_INPUT_CHANNEL": "no input channel, so that touches on it are dropped; the session tells its channel of them",
     "PAUSE_DISPATCHING": "paused: it would be told nothing until it goes on",
     "DROP_INPUT": "its input is dropped",
     "DROP_INPUT_IF_OBSCURED": "its input is dropped where another window lies over it",
@@ -24,24 +26,24 @@ SCALED = "scaled or turned, so that its places are other ones"
 # What says nothing about who is told what.
 PASSED_OVER = {
     "DISABLE_USER_ACTIVITY", "IS_WALLPAPER", "NOT_VISIBLE", "NOT_TOUCH_MODAL", "NONE", "DEFAULT", "SENSITIVE_FOR_PRIVACY",
-    "SENSITIVE_FOR_TRACING",
+    "SENSITIVE_FOR_TRACING", WALL,
 }
 
 
 class Shown:
     """A window of a session: who it is through all dumps, and what the step says of it."""
 
-    def __init__(self, who, name, display, frame, region, flags, limit_ms=5000, trust=session_trust.Trust()):
+    def __init__(self, who, name, display, frame, region, flags, limit_ms=5000, trust=session_trust.Trust(), wall=False):
         self.who, self.name, self.display, self.frame = who, name, display, frame
         self.region, self.flags, self.limit_ms, self.trust = region, flags, limit_ms, trust
-        self.focused, self.why = False, None
+        self.wall, self.focused, self.why = wall, False, None
 
     def can_be_told(self):
         touched = self.region and "NOT_TOUCHABLE" not in self.flags
         return bool(touched or self.focused or "WATCH_OUTSIDE_TOUCH" in self.flags)
 
     def line(self, channel):
-        parts = ['channel = "%s"' % channel] + (["display = %d" % self.display] if self.display else [])
+        parts = ["wall = true" if self.wall else 'channel = "%s"' % channel] + (["display = %d" % self.display] if self.display else [])
         parts.append("frame = %s" % numbers(self.frame))
         if list(self.region) != [self.frame]:
             parts.append("region = [%s]" % ", ".join(numbers(rectangle) for rectangle in self.region))
@@ -87,8 +89,6 @@ def is_one(text):
 def unsaid(window):
     """What a session cannot say of a window of a dump."""
     for name in sorted(window.names):
-        if name == "NO_INPUT_CHANNEL" and ("NOT_TOUCHABLE" in window.names or not window.region):
-            continue
         if name in UNSAID:
             yield UNSAID[name]
         elif name not in FLAGS and name not in PASSED_OVER:
@@ -125,11 +125,12 @@ def shown_window(window, count, displays, causes):
     region = [in_order(rectangle) for rectangle in window.region[:MOST_RECTANGLES]]
     if is_modal(window):
         region = [displays.whole(window.display)]
-    flags = [flag for flag in FLAGS if flag in window.names]
+    wall = WALL in window.names
+    flags = [flag for flag in (WALL_FLAGS if wall else FLAGS) if flag in window.names]
     who = (window.name, window.id, count)
     limit_ms = min(max(window.limit_ms(), 1), LAST_LIMIT)
     place, trust = displays.place[window.display], session_trust.trust_of(window.values)
-    return Shown(who, window.name, place, in_order(window.frame), region, flags, limit_ms, trust)
+    return Shown(who, window.name, place, in_order(window.frame), region, flags, limit_ms, trust, wall)
 
 
 def shown_windows(dump, displays, causes):
@@ -149,12 +150,12 @@ def shown_windows(dump, displays, causes):
             counts[window.name, window.id] += 1
             shown.append(shown_window(window, counts[window.name, window.id], displays, causes))
     for display, name in dump.focus.items():
-        fit = [w for w in shown if w.name == name and w.display == displays.place.get(display)]
+        fit = [w for w in shown if w.name == name and w.display == displays.place.get(display) and not w.wall]
         fit = [w for w in fit if "NOT_FOCUSABLE" not in w.flags] or fit
         if fit:
             fit[0].focused = True
         else:
-            causes.add("it has the focus of display %d and is no window that is shown" % display, name)
+            causes.add("it has the focus of display %d and is no window that is shown and has a channel" % display, name)
     return shown
 
 
@@ -179,15 +180,15 @@ def mark_unreachable(shown, displays):
 
 
 def kept(steps, said):
-    """The windows of at most 64 channels, those first that can be told anything, then front to back."""
+    """At most 64 windows, those first that can be told anything or can be touched, then front to back."""
     able = collections.OrderedDict()
     for shown in steps:
         for window in shown:
             able[window.who] = able.get(window.who, False) or window.can_be_told()
     order = sorted(able, key=lambda who: not able[who])
-    for who in order[MOST_CHANNELS:]:
-        said("%s is left out: a session has at most %d channels" % (who[0], MOST_CHANNELS))
-    keep = set(order[:MOST_CHANNELS])
+    for who in order[MOST_WINDOWS:]:
+        said("%s is left out: there are more than %d windows" % (who[0], MOST_WINDOWS))
+    keep = set(order[:MOST_WINDOWS])
     return [[window for window in shown if window.who in keep] for shown in steps]
 
 
@@ -196,7 +197,7 @@ def channels_of(steps):
     names, taken, lines = {}, set(), []
     for shown in steps:
         for window in shown:
-            if window.who not in names:
+            if window.who not in names and not window.wall:
                 name = names[window.who] = channel_name(window.name, taken)
                 more = [comment(window.name)] if name != window.name else []
                 more += ['name = "%s"' % name]
@@ -238,7 +239,7 @@ def step_tables(moments, dumps, displays, has_keys, said):
     names, lines = channels_of(steps)
     focus = Focus()
     for at, shown, dump in zip(moments, steps, dumps):
-        rows = ["windows = [", *(window.line(names[window.who]) for window in shown), "]"]
+        rows = ["windows = [", *(window.line(names.get(window.who)) for window in shown), "]"]
         lines += table("step", "at_us = %d" % at, 'do = "windows"', *rows)
         now = {window.display: names[window.who] for window in shown if window.focused}
         lines += focus.steps(at, now, displays.place.get(dump.focused_display))

@@ -5,13 +5,16 @@ from .laws import need
 
 SET = r"((?:\d+,)*\d+|-)"
 ONE = r"(\d+|-)"
+# A window by its channel; walls have none.
+WALL = 0
+WINDOW = r"(\d+|wall|-)"
 AT = r"(\d) (\d+) (-?\d+),(-?\d+)"
 LOST = r"((?:(?:key )?\d:[\d,]+ ?)+(?<! )|-)"
-SETS = r" spies %s pilfering %s given %s mute %s outside %s((?: blocked \d+ by [\d,]+)*)" % ((SET,) * 5)
+SETS = r" spies %s pilfering %s given %s mute %s outside %s((?: blocked \d+ by (?:[\d,]+(?: wall)?|- wall))*)" % ((SET,) * 5)
 # The lines by their first words.
 FORMS = {
-    "windows": r"windows((?: \d+@\d(?::-?\d+|,-?\d+)+)*)",
-    "down": r"down %s touched %s row (\w+) chosen %s" % (AT, ONE, ONE) + SETS,
+    "windows": r"windows((?: (?:\d+|wall)@\d(?::-?\d+|,-?\d+)+)*)",
+    "down": r"down %s touched %s row (\w+) chosen %s" % (AT, WINDOW, WINDOW) + SETS,
     "slip": r"slip %s from (\d+) to (\d+)" % AT,
     "up": r"(up) (\d) (\d+) from %s" % SET,
     "palm": r"(palm) (\d) (\d+) from %s" % SET,
@@ -32,7 +35,7 @@ BEHIND = ("gone", "focus", "target")
 
 
 def one(word):
-    return None if word in (None, "-") else int(word)
+    return None if word in (None, "-") else WALL if word == "wall" else int(word)
 
 
 def rising(word):

@@ -6,7 +6,7 @@ from collections import Counter
 from .causes import Causes
 from .delivery import delivered, named
 from .laws import FOCUS, KEY, MOTION, ends_so, marks_of, moments, need, sections
-from .make import Window, owned, sides, some_frame
+from .make import Window, owned, sides, some_frame, walled, with_channels
 from .recording import KEY as KEY_EVENT
 from .recording import DROPPED, REPORT, SYN, Down, read
 from .replayed import removals
@@ -99,7 +99,7 @@ def wide(case, rng):
             windows.insert(rng.randint(0, k), owned(rng, Window(name, display, frame, ["NOT_TOUCHABLE"]), (1, 2, 3)))
         else:
             windows.append(owned(rng, Window(name, display, frame, flags), (0, 0, 1)))
-    return windows
+    return walled(rng, windows, case.displays)
 
 
 def busier(case):
@@ -108,12 +108,12 @@ def busier(case):
     other = copy.copy(case)
     moments_of = sorted({event[0] for event in read(case.recording)[0]}) or [0]
     windows = wide(case, rng)
-    other.steps = [(0, 1, "windows", windows), (0, 1, "focus", windows[-1][:2])]
+    other.steps = [(0, 1, "windows", windows), (0, 1, "focus", with_channels(windows)[-1][:2])]
     for at in sorted(rng.choice(moments_of) + rng.choice((0, 1)) for _ in range(12)):
         act = rng.choice(("windows", "focus", "pilfer", "pilfer", "pilfer"))
         if act == "windows":
             windows = wide(case, rng)
-        what = windows if act == "windows" else rng.choice(windows)[:2] if act == "focus" else (windows[0][0], rng.randint(1, len(case.devices)))
+        what = windows if act == "windows" else rng.choice(with_channels(windows))[:2] if act == "focus" else (with_channels(windows)[0][0], rng.randint(1, len(case.devices)))
         other.steps.append((at, 1, act, what))
     return other
 

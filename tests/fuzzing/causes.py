@@ -1,7 +1,7 @@
 """The lines of `why`, gone through one by one: who holds what by them, and what windows are to be told."""
 from collections import Counter
 
-from .cause_lines import BEHIND, FORMS, lost, one, rising
+from .cause_lines import BEHIND, FORMS, WALL, lost, one, rising
 from .laws import need
 from .trust import blockers, marks
 
@@ -109,10 +109,11 @@ class Causes:
 
     def on_windows(self, listed):
         what = self.act("windows")
-        wanted = "".join(" %d@%d:%d,%d,%d,%d" % ((self.numbers[window.name], window.display) + window.frame) for window in what)
+        called = lambda window: str(self.numbers[window.name]) if window.name else "wall"
+        wanted = "".join(" %s@%d:%d,%d,%d,%d" % ((called(window), window.display) + window.frame) for window in what)
         need(listed == wanted, "windows are%s, and not%s" % (listed, wanted))
         self.shown = what
-        self.windows = {self.numbers[window.name]: window[1:4] + (k,) for k, window in enumerate(what)}
+        self.windows = {self.numbers[window.name]: window[1:4] + (k,) for k, window in enumerate(what) if window.name}
 
     def flagged(self, windows, flag):
         return [window for window in windows if flag in self.windows[window][2]]
@@ -127,19 +128,20 @@ class Causes:
             return (first, "unsplit") if whole else (touched, "first")
         if touched is None:
             return first, "nothing"
-        alone = self.flagged([touched], "PREVENT_SPLITTING") and not self.has(touched, device)
+        alone = touched != WALL and self.flagged([touched], "PREVENT_SPLITTING") and not self.has(touched, device)
         return (first, "whole") if alone else (touched, "split")
 
     def on_display(self, device, window):
         """The name of a window, and the windows on the display of a device, front to back."""
         display = self.displays[device - 1]
-        there = [w for w in self.shown if w.display == display and self.numbers[w.name] not in self.removed]
+        there = [w for w in self.shown if w.display == display and self.numbers.get(w.name) not in self.removed]
         return next(name for name, number in self.numbers.items() if number == window), there
 
     def blocked_by(self, device, window, x, y):
-        """The windows that block a window where a pointer of a device is, by their numbers."""
+        """The windows that block a window where a pointer of a device is, as a set of those that have channels; nothing where none does."""
         name, there = self.on_display(device, window)
-        return sorted(self.numbers[name] for name in blockers(there, name, (int(x), int(y))))
+        names = blockers(there, name, (int(x), int(y)))
+        return names and (",".join(map(str, sorted(self.numbers[name] for name in names if name))) or "-")
 
     def on_down(self, device, number, x, y, touched, row, chosen, *sets):
         device, number = int(device), int(number)
@@ -149,11 +151,11 @@ class Causes:
         need(spies <= set(self.flagged(self.windows, "SPY")), "at %d are no spies: %s" % (self.at, spies))
         wanted = self.choice(device, one(touched))
         need((one(chosen), row) == wanted, "at %d %s is chosen by %s, and not %s by %s" % (self.at, chosen, row, *wanted))
-        candidates = spies | {one(chosen)} - {None}
+        candidates = spies | {one(chosen)} - {None, WALL}
         need(pilfering == {w for w in candidates if (w, device) in self.pilferers}, "at %d are pilfering %s" % (self.at, pilfering))
         targets = pilfering or candidates
         blocked = {w: by for w, by in ((w, self.blocked_by(device, w, x, y)) for w in sorted(targets - self.mute)) if by}
-        wanted = "".join(" blocked %d by %s" % (w, ",".join(map(str, by))) for w, by in blocked.items())
+        wanted = "".join(" blocked %d by %s" % (w, by) for w, by in blocked.items())
         need(listed == wanted, "at %d are%s, and not%s" % (self.at, listed, wanted))
         rest = targets - mute - set(blocked)
         need(mute == targets & self.mute and given == rest, "at %d targets %s: %s, %s" % (self.at, targets, given, mute))

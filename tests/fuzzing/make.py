@@ -10,8 +10,12 @@ LAYOUT = "key 30 A\nkey 42 SHIFT_LEFT\nkey 115 VOLUME_UP\nkey 158 BACK\n"
 SCANS = (30, 42, 115, 158, 999)
 
 
+# The flags that a window of nobody may have.
+WALL_FLAGS = ("NOT_TOUCHABLE", "NOT_FOCUSABLE", "TRUSTED_OVERLAY")
+
+
 class Window(NamedTuple):
-    """A window of a step."""
+    """A window of a step. A wall, which is of nobody, has no name."""
 
     name: str
     display: int
@@ -33,6 +37,24 @@ def owned(rng, window, owners=(0, 0, 0, 1, 2)):
     """The window as one of some owner, of some opacity and some occlusion."""
     opacity = rng.choice((0, 20, 50, 60, 80, 81, 100, rng.randint(0, 100)))
     return window._replace(owner=rng.choice(owners), opacity=opacity, occlusion=rng.choice(("block", "opacity", "opacity", "allow", "allow")))
+
+
+def with_channels(windows):
+    """Those of some windows that are no walls."""
+    return [window for window in windows if window.name]
+
+
+def walled(rng, windows, displays):
+    """The windows, in about a quarter of the calls with one to three walls among them."""
+    windows = list(windows)
+    for _ in range(rng.choice((0, 0, 0, 1, 1, 3)) if rng.random() < 0.5 else 0):
+        number = rng.randrange(len(displays))
+        width, height = sides(displays[number])
+        frame = rng.choice(((0, 0, width // 2, height), (0, 0, width, height // 3), some_frame(rng, width, height)))
+        flags = [flag for flag in WALL_FLAGS if rng.random() < 0.2]
+        wall = Window("", number, frame, flags, rng.choice((None, None, [frame], [])))
+        windows.insert(rng.randint(0, len(windows)), owned(rng, wall) if rng.random() < 0.7 else wall)
+    return windows
 
 
 def some_frame(rng, width, height):
@@ -126,13 +148,14 @@ class Case:
                 flags = [rng.choice(("SPY", "WATCH_OUTSIDE_TOUCH"))]
             halves = [(0, 0, width // 2, height), (width // 3, 0, width, height // 2)]
             windows.append(Window(name, display, frame, flags, rng.choice((None, None, None, [frame], [], halves))))
-        return [owned(rng, window) for window in windows] if rng.random() < 0.5 else windows
+        windows = [owned(rng, window) for window in windows] if rng.random() < 0.5 else windows
+        return windows if self.plain or self.apart else walled(rng, windows, self.displays)
 
     def some_focus(self):
         """A window that is there and its display, a channel and any display, or nobody."""
         rng = self.random
         if rng.random() < 0.7:
-            return rng.choice(self.current)[:2]
+            return rng.choice(with_channels(self.current))[:2]
         return rng.choice((None, rng.choice(self.channels)[0])), rng.randrange(len(self.displays))
 
     def some_act(self):
@@ -269,7 +292,8 @@ def act_text(act, what):
     if act == "windows":
         text = "windows = ["
         for window in what:
-            text += '\n    { channel = "%s", display = %d, frame = %s' % (window.name, window.display, list(window.frame))
+            whose = 'channel = "%s"' % window.name if window.name else "wall = true"
+            text += "\n    { %s, display = %d, frame = %s" % (whose, window.display, list(window.frame))
             text += ", flags = [%s]" % ", ".join('"%s"' % f for f in window.flags) if window.flags else ""
             text += ", region = %s" % [list(r) for r in window.region] if window.region is not None else ""
             if window[5:] != Window("", 0, ())[5:]:

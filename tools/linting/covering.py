@@ -73,7 +73,8 @@ def covered(findings, plan):
         for window in step.get("windows", ()):
             region, number, channel = region_of(window), window.get("display", 0), window.get("channel")
             size, again = extent(plan, number), channel in channels
-            channels.add(channel)
+            if channel is not None:
+                channels.add(channel)
             readable = "flags" in window.said or window.node.get("flags") is None
             flags = window.get("flags", ())
             if again or not readable or not region or not size or "NOT_TOUCHABLE" in flags:

@@ -10,8 +10,10 @@ STEP = {
     "pilfer": ("at_us", "lane", "do", "channel", "device"),
     "remove": ("at_us", "lane", "do", "channel"),
 }
-WINDOW = ("channel", "display", "frame", "region", "flags", "owner", "opacity", "occlusion")
+WINDOW = ("wall", "channel", "display", "frame", "region", "flags", "owner", "opacity", "occlusion")
 FLAGS = ("NOT_TOUCHABLE", "SPY", "PREVENT_SPLITTING", "SLIPPERY", "WATCH_OUTSIDE_TOUCH", "NOT_FOCUSABLE", "TRUSTED_OVERLAY")
+# Flags that ask for messages, so a wall cannot have them.
+MESSAGE_FLAGS = ("SPY", "PREVENT_SPLITTING", "SLIPPERY", "WATCH_OUTSIDE_TOUCH")
 OCCLUSIONS = ("block", "opacity", "allow")
 ROTATIONS = (0, 90, 180, 270)
 

@@ -99,12 +99,17 @@ def regions(findings, plan):
                 findings.warning(at, full, "it lies outside of the frame; a region is in pixels of the display")
 
 
+def by_channel(step):
+    """The windows of a step by their channels; walls have none."""
+    return {window.get("channel"): window for window in step.get("windows", ()) if window.get("channel") is not None}
+
+
 def spies(findings, plan):
     """Pilfering by a channel whose window is no spy at that moment, or of a device without fingers."""
     windows = {}
     for step in in_order(plan):
         if step.get("do") == "windows":
-            windows = {window.get("channel"): window for window in step.get("windows", ())}
+            windows = by_channel(step)
         if step.get("do") != "pilfer" or step.get("channel") is None:
             continue
         at, name = step.node.get("channel").at, shown(step.get("channel"))
@@ -137,7 +142,7 @@ def focus(findings, plan):
     windows = {}
     for step in in_order(plan):
         if step.get("do") == "windows":
-            windows = {window.get("channel"): window for window in step.get("windows", ())}
+            windows = by_channel(step)
         window = windows.get(step.get("channel"))
         if step.get("do") != "focus" or window is None:
             continue

@@ -151,7 +151,9 @@ class Judge(Reading):
             self.number(entry, "device", 1, count, True, ", as the session has %d device%s" % (count, "s" * (count != 1)))
 
     def window(self, step, entry):
-        self.channel_named(entry)
+        self.wall(entry)
+        if not entry.get("wall"):
+            self.channel_named(entry)
         for other in step.said["windows"]:
             if entry.get("channel") and other.get("channel") == entry.get("channel"):
                 self.wrong(entry, "channel", "%s is of this channel already" % other.name, entry.node.get("channel").at)
@@ -165,6 +167,14 @@ class Judge(Reading):
         self.number(entry, "owner", 0, 2**32 - 1)
         self.number(entry, "opacity", 0, 100)
         self.occlusion(entry)
+
+    def wall(self, entry):
+        """Whether a window is of nobody."""
+        node, channel = entry.node.get("wall"), entry.node.get("channel")
+        if node is not None and self.has_kind(entry, "wall", node, "truth", "true or false"):
+            entry.said["wall"] = node.value
+        if entry.get("wall") and channel is not None:
+            self.wrong(entry, "channel", "a wall is of nobody, so it has no channel", channel.at)
 
     def rectangle_form(self, entry, key, node):
         """Whether a node is four integers in order."""
@@ -213,6 +223,9 @@ class Judge(Reading):
             self.unknown(entry, "flags", '"%s" is no flag%s' % (shown(inner.value), hint), inner.at)
         if not wrong and all(inner.kind == "text" for inner in node.value):
             entry.said["flags"] = {inner.value for inner in node.value}
+        for inner in node.value if entry.get("wall") else ():
+            if inner.kind == "text" and inner.value in known.MESSAGE_FLAGS:
+                self.wrong(entry, "flags", "a wall is sent nothing, so it cannot have %s" % inner.value, inner.at)
 
     def occlusion(self, entry):
         node = entry.node.get("occlusion")

@@ -63,6 +63,7 @@ RECORDING = """[       1.000000] /dev/input/event2: 0003 002f 00000000
 
 MAIN = '{ channel = "main", frame = [0, 0, 1080, 2400] }'
 SPY = '{ channel = "spy", frame = [0, 0, 1080, 2400], flags = ["SPY"] }'
+WALL = '{ wall = true, frame = [0, 0, 540, 2400] }'
 BOTH = SPY + ",\n    " + MAIN
 
 # name, old, new, findings, refusal
@@ -127,6 +128,16 @@ IN_SESSION = [
      "session: UnknownName step[1].windows[2].channel"),
     ("two windows of a channel", MAIN, MAIN + ",\n    " + MAIN, [(33, 17, "error", "step[1].windows[3].channel", "already")],
      "session: Wrong step[1].windows[3].channel"),
+    ("a window of nobody that says nothing of it", SPY, WALL.replace("true", "false") + ",\n    " + SPY,
+     [(31, 5, "error", "step[1].windows[1].channel", "not there")], "session: Missing step[1].windows[1].channel"),
+    ("a wall with a channel", SPY, WALL.replace("wall", 'channel = "spy", wall') + ",\n    " + SPY,
+     [(31, 17, "error", "step[1].windows[1].channel", "a wall is of nobody")], "session: Wrong step[1].windows[1].channel"),
+    ("a wall by number", SPY, WALL.replace("true", "1") + ",\n    " + SPY,
+     [(31, 5, "error", "step[1].windows[1].channel", "not there"), (31, 14, "error", "step[1].windows[1].wall", "true or false")],
+     "session: Wrong step[1].windows[1].wall"),
+    ("a wall that spies and slips", SPY, WALL.replace(" }", ', flags = ["NOT_FOCUSABLE", "SPY", "SLIPPERY"] }') + ",\n    " + SPY,
+     [(31, column, "error", "step[1].windows[1].flags", "a wall is sent nothing, so it cannot have S") for column in (73, 80)],
+     "session: Wrong step[1].windows[1].flags"),
     ("a frame as an extent", MAIN, '{ channel = "main", frame = [540, 0, 500, 2400] }',
      [(32, 33, "error", "step[1].windows[2].frame", "are the last two an extent")], "session: Wrong step[1].windows[2].frame"),
     ("a frame of three", MAIN, '{ channel = "main", frame = [0, 0, 1080] }',
@@ -202,6 +213,14 @@ IN_SESSION = [
     ("a window behind two rectangles", BOTH,
      MAIN.replace(" }", ", region = [[0, 0, 540, 2400], [540, 0, 1080, 2400]] }") + ",\n    " + SPY,
      [(32, 32, "warning", "step[1].windows[2].frame", "behind step[1].windows[1], so")], None),
+    ("walls", BOTH, WALL + ",\n    " + WALL.replace("0, 0, 540", "540, 0, 800") + ",\n    " + BOTH, [], None),
+    ("a window behind walls", BOTH, WALL + ",\n    " + WALL.replace("0, 0, 540", "540, 0, 1080") + ",\n    " + BOTH,
+     [(33, 32, "warning", "step[1].windows[3].frame", "wholly behind step[1].windows[1] and step[1].windows[2]"),
+      (34, 33, "warning", "step[1].windows[4].frame", "wholly behind step[1].windows[1] and step[1].windows[2]")], None),
+    ("a wall and the focus of nobody", MAIN + ',\n]\n\n[[step]]\nat_us = 0\ndo = "focus"\nchannel = "main"\n',
+     MAIN + ",\n    " + WALL.replace(" }", ', flags = ["NOT_TOUCHABLE"] }') + ',\n]\n\n[[step]]\nat_us = 0\ndo = "focus"\n', [], None),
+    ("a wall behind another", BOTH, WALL + ",\n    " + WALL + ",\n    " + BOTH,
+     [(32, 28, "warning", "step[1].windows[2].frame", "wholly behind step[1].windows[1]")], None),
     ("a window of which a line is free", BOTH, MAIN.replace("2400]", "2399]") + ",\n    " + SPY, [], None),
     ("a window behind one that is not touchable", BOTH, MAIN.replace(" }", ', flags = ["NOT_TOUCHABLE"] }') + ",\n    " + SPY, [], None),
     ("windows that are replaced before the first event", "[[step]]\nat_us = 0\ndo = \"focus\"",

@@ -15,7 +15,8 @@ KINDS = [
     (r"text, empty", "string", lambda: ""),
     (r"text, `(\w+)`", "string", str),
     (r"text, no channel", "string", lambda: ABSENT),
-    (r"truth value, true", "boolean", lambda: True),
+    (r"text; a wall has none", "string", lambda: ABSENT),
+    (r"truth value, (true|false)", "boolean", lambda word: word == "true"),
     (r"array of tables, none", "array of object", lambda: []),
     (r"array of tables, front to back", "array of object", None),
     (r"array of two integers.*", "array of 2 integer", None),
@@ -156,7 +157,7 @@ def said_of(schema, key):
 
 TYPES = {"object": dict, "array": list, "string": str, "boolean": bool, "integer": int}
 READ = {"type", "properties", "additionalProperties", "required", "items", "minItems", "maxItems", "minimum", "maximum", "enum", "const"}
-READ |= {"pattern", "oneOf", "$ref", "default", "title", "description", "definitions", "$schema"}
+READ |= {"pattern", "oneOf", "not", "$ref", "default", "title", "description", "definitions", "$schema"}
 
 
 def faults(schema, value, part=None, path="session"):
@@ -166,6 +167,8 @@ def faults(schema, value, part=None, path="session"):
     found = []
     if "oneOf" in part and sum(not faults(schema, value, one, path) for one in part["oneOf"]) != 1:
         found.append("%s fits not one of them" % path)
+    if "not" in part and not faults(schema, value, part["not"], path):
+        found.append("%s fits what it must not fit" % path)
     kind = TYPES.get(part.get("type"))
     # JSON Schema takes 1080.0 as an integer.
     whole = kind is int and isinstance(value, float) and value.is_integer()
@@ -181,12 +184,13 @@ def faults(schema, value, part=None, path="session"):
         if not part.get("minItems", 0) <= len(value) <= part.get("maxItems", len(value)):
             found.append("%s has %d entries" % (path, len(value)))
         for k, inner in enumerate(value):
-            found += faults(schema, inner, part["items"], "%s[%d]" % (path, k))
-    if isinstance(value, dict) and "properties" in part:
+            found += faults(schema, inner, part.get("items", {}), "%s[%d]" % (path, k))
+    if isinstance(value, dict):
         found += ["%s.%s is not there" % (path, key) for key in part.get("required", ()) if key not in value]
+    if isinstance(value, dict) and "properties" in part:
         for key, inner in value.items():
             if key in part["properties"]:
                 found += faults(schema, inner, part["properties"][key], "%s.%s" % (path, key))
-            elif part["additionalProperties"] is False:
+            elif part.get("additionalProperties") is False:
                 found.append("%s.%s is none of its keys" % (path, key))
     return found

@@ -155,7 +155,8 @@ function placedFrame(model, box, { channel, left, top, right, bottom }) {
   const [x, y] = box.at({ x: left, y: top });
   return {
     x, y, width: (right - left) * box.scale, height: (bottom - top) * box.scale,
-    color: lane ? colorOf(lane) : theme().soft, dash: lane ? dashOf(lane) : [], name: model.names.get(channel) || "channel " + channel,
+    color: lane ? colorOf(lane) : theme().soft, dash: channel === WALL ? [2, 4] : lane ? dashOf(lane) : [],
+    name: channel === WALL ? "nobody" : model.names.get(channel) || "channel " + channel,
   };
 }
 

@@ -28,10 +28,13 @@ function fingersIn(ids) { return [ids.length === 1 ? "finger " : "fingers ", ...
 /** The name of a channel, of which the model knows those that have a section. */
 function nameOf(channel) {
   const { names } = state.model;
-  return channel === null ? "nobody" : names.has(channel) ? { name: names.get(channel) } : "channel " + channel;
+  return channel === null ? "nobody" : channel === WALL ? "a window of nobody" : names.has(channel) ? { name: names.get(channel) } : "channel " + channel;
 }
 
 function namesOf(channels) { return channels.length === 0 ? ["nobody"] : listed(channels.map((channel) => [nameOf(channel)])); }
+
+/** What blocks a window: a set that has no walls. */
+function blockersOf(by) { return by.length === 0 ? nameOf(WALL) : namesOf(by); }
 
 /** A place, and with its window's corner also where that is on the display. */
 function placeOf(pointer, origin) {
@@ -103,9 +106,10 @@ function resultOf({ device, chosen, given, mute, pilfering, blocked }) {
   const c = nameOf(chosen);
   const block = blocked.find(({ channel }) => channel === chosen);
   return chosen === null ? words`so no window was chosen`
+    : chosen === WALL ? words`so ${c} took it`
     : given.includes(chosen) ? words`so ${c} got it`
     : mute.includes(chosen) ? words`so it was for ${c}, which does not respond and got nothing`
-    : block ? words`so it was for ${c}, which is blocked by ${namesOf(block.by)} and got nothing`
+    : block ? words`so it was for ${c}, which is blocked by ${blockersOf(block.by)} and got nothing`
     : words`so it was for ${c}, but ${namesOf(pilfering)} took device ${device} for itself`;
 }
 
@@ -115,9 +119,9 @@ function besides({ chosen, given, mute, pilfering, outside, blocked }) {
   const silent = mute.filter((channel) => channel !== chosen);
   const hidden = blocked.filter(({ channel }) => channel !== chosen);
   return [
-    others.length === 0 ? [] : pilfering.length > 0 ? words`; ${namesOf(others)} alone got it` : words`; ${namesOf(others)} got it too, as a spy`,
+    others.length === 0 ? [] : pilfering.length > 0 ? words`; ${namesOf(others)} alone got it` : words`; ${namesOf(others)} got it${chosen === WALL ? "" : " too"}, as a spy`,
     silent.length === 0 ? [] : words`; ${namesOf(silent)} does not respond and got nothing`,
-    ...hidden.map(({ channel, by }) => words`; ${nameOf(channel)} is blocked by ${namesOf(by)} and got nothing`),
+    ...hidden.map(({ channel, by }) => words`; ${nameOf(channel)} is blocked by ${blockersOf(by)} and got nothing`),
     given.length > 0 ? [] : words`; nobody got it`,
     outside.length === 0 ? [] : words`; ${namesOf(outside)} was sent a touch outside`,
   ];

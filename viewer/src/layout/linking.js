@@ -148,11 +148,15 @@ function linkSection({ id, messages }, mine, origins, causes) {
   }
 }
 
+function isWithin({ x, y }, { left, top, right, bottom }) { return left <= x && x < right && top <= y && y < bottom; }
+
 /** Fingers that no window got: where they went down, and until when. */
 function fingersOfNobody(causes, origins) {
   const open = new Map();
   const alone = [];
   const displays = new Map();
+  const walls = new Map();
+  let shown = [];
   const close = (name, t) => {
     if (open.has(name)) {
       open.get(name).to = t;
@@ -161,8 +165,12 @@ function fingersOfNobody(causes, origins) {
   };
   for (const cause of causes) {
     const { word, device, id, t, touched, given } = cause;
-    const origin = word === "down" && touched !== null ? originAt(origins.get(touched) || [], cause.index) : null;
+    const origin = word === "down" && touched !== null && touched !== WALL ? originAt(origins.get(touched) || [], cause.index) : null;
     if (origin) { displays.set(device, origin.display); }
+    if (word === "windows") { shown = cause.windows; }
+    // A wall says its display only by its frame.
+    const wall = word === "down" && touched === WALL && shown.find((one) => one.channel === WALL && isWithin(cause, one));
+    if (wall) { walls.set(device, wall.display); }
     if (["down", "up", "palm"].includes(word)) {
       close(device + ":" + id, t);
     } else if (word === "reset") {
@@ -173,5 +181,5 @@ function fingersOfNobody(causes, origins) {
       open.set(device + ":" + id, alone[alone.length - 1]);
     }
   }
-  return alone.map((finger) => Object.assign(finger, { display: displays.get(finger.device) || 0 }));
+  return alone.map((finger) => Object.assign(finger, { display: displays.get(finger.device) ?? walls.get(finger.device) ?? 0 }));
 }

@@ -3,7 +3,7 @@
 const CAUSES = [
   "windows{windows:frames}",
   "gone {channel:n} {lost:lost}",
-  "down {device:n} {id:n} {x:i},{y:i} touched {touched:c} row {row:row} chosen {chosen:c} spies {spies:s} " +
+  "down {device:n} {id:n} {x:i},{y:i} touched {touched:w} row {row:row} chosen {chosen:w} spies {spies:s} " +
     "pilfering {pilfering:s} given {given:s} mute {mute:s} outside {outside:s}{blocked:blocked}",
   "slip {device:n} {id:n} {x:i},{y:i} from {from:n} to {to:n}",
   "up {device:n} {id:n} from {from:s}",

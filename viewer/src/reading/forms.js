@@ -5,6 +5,9 @@ const MAX_BYTES = 64 * 1024 * 1024;
 const NUMBER = "(?:0|[1-9][0-9]*)";
 const PLACE = "(?:0|-?[1-9][0-9]*)";
 const SET = `(?:-|${NUMBER}(?:,${NUMBER})*)`;
+// A wall, a window of nobody, stands in lists of windows where others have their channel.
+const WALL = 0;
+const WINDOW = `(?:wall|[1-9][0-9]*)`;
 const LOST = `(?:${NUMBER}:${SET}|key ${NUMBER}:${NUMBER})`;
 
 /** What may stand in a field: how it is spelled, and what is made of it; `undefined` where that is out of range. */
@@ -29,12 +32,13 @@ const KINDS = {
   i: [PLACE, Number],
   c: [`(?:-|${NUMBER})`, (text) => (text === "-" ? null : Number(text))],
   n: [NUMBER, Number],
+  w: [`(?:-|${WINDOW})`, (text) => (text === "-" ? null : toWindow(text))],
   s: [SET, toSet],
   lost: [`(?:-|${LOST}(?: ${LOST})*)`, toLost],
   row: ["(?:first|unsplit|nothing|whole|split)", String],
   blocked: [`(?: blocked ${NUMBER} by ${SET})*`, toBlocked],
   refused: ["(?:Gone|NotSpy|NothingHeld)", String],
-  frames: [`(?: ${NUMBER}@${NUMBER}:${PLACE},${PLACE},${PLACE},${PLACE})*`, toFrames],
+  frames: [`(?: ${WINDOW}@${NUMBER}:${PLACE},${PLACE},${PLACE},${PLACE})*`, toFrames],
 };
 
 /** A text that is refused, with the number of its line. */
@@ -72,10 +76,13 @@ function toSet(text) {
   return numbers.every((number, k) => k === 0 || numbers[k - 1] < number) ? numbers : undefined;
 }
 
-/** Windows that are blocked, in rising order, each with those that block it. */
+/** A window by its channel, or a wall. */
+function toWindow(text) { return text === "wall" ? WALL : Number(text); }
+
+/** Windows that are blocked, in rising order, each with those that block it: none where only walls do. */
 function toBlocked(text) {
   const blocked = [...text.matchAll(/ blocked ([0-9]+) by (-|[0-9,]+)/g)].map(([, channel, by]) => ({ channel: Number(channel), by: toSet(by) }));
-  return blocked.every(({ channel, by }, k) => by && by.length > 0 && (k === 0 || blocked[k - 1].channel < channel)) ? blocked : undefined;
+  return blocked.every(({ channel, by }, k) => by && (k === 0 || blocked[k - 1].channel < channel)) ? blocked : undefined;
 }
 
 /** What a window lost: ids of devices, and keys. */
@@ -94,8 +101,9 @@ function toLost(text) {
 /** Windows, front to back. */
 function toFrames(text) {
   return text.split(" ").slice(1).map((word) => {
-    const [channel, display, left, top, right, bottom] = word.split(/[@:,]/).map(Number);
-    return { channel, display, left, top, right, bottom };
+    const [window, ...numbers] = word.split(/[@:,]/);
+    const [display, left, top, right, bottom] = numbers.map(Number);
+    return { channel: toWindow(window), display, left, top, right, bottom };
   });
 }
 
