@@ -171,6 +171,8 @@ int inputflinger_live_windows_sized(struct inputflinger_live *live, uint64_t now
 				    const struct inputflinger_rect *rects, size_t rects_len, uint64_t *named);
 int inputflinger_live_next_sized(struct inputflinger_live *live, const struct inputflinger_client *client,
 				 struct inputflinger_message *message, size_t message_size);
+int inputflinger_live_next_any_sized(struct inputflinger_live *live, struct inputflinger_client *client,
+				     struct inputflinger_message *message, size_t message_size, bool *last);
 
 /* The kinds of messages. */
 enum inputflinger_kind {
@@ -425,9 +427,11 @@ enum inputflinger_occlusion {
 };
 
 /*
- * A window of a client. A client has one window at most.
+ * A window of a client, or of nobody. A client has one window at most; any number may be of nobody.
  *
- *     client     the owner
+ *     client     the owner; a zeroed client, whose channel is 0, makes the window a wall: it is touched as others are, and
+ *                nobody is given what it takes. Show one for a client that could not be opened, or touches fall through
+ *                to the window behind. A wall is no spy, does not watch, does not prevent splitting, and has no focus
  *     frame      where it is; its left and top edges are the origin of the positions that the client is sent, in pixels
  *     flags      the bits above
  *     rects      the number of rectangles in which it can be touched, at most 64; they are passed beside the windows
@@ -484,7 +488,7 @@ struct inputflinger_displays {
  *     a device has an event                advance to its time; then event
  *     a client says that it is done        finish
  *     the clock reaches the time of due    advance to now: the clients of the mask do not respond
- *     at the end, each channel of waiting  client_at, and next until it answers INPUTFLINGER_NOTHING
+ *     at the end                           next_any until it answers INPUTFLINGER_NOTHING
  *
  * A finger goes down in a client's window, and the client is closed under it:
  *
@@ -669,6 +673,8 @@ int inputflinger_live_client_at(const struct inputflinger_live *live, uint32_t c
  *     windows [a's window, of owner 1, b's, of owner 2]
  *                                                     INPUTFLINGER_OK: a's window blocks b's where its frame is
  *     a finger goes down there; a's is NOT_TOUCHABLE  nobody is given it
+ *     windows [a window of no client, b's behind it]  INPUTFLINGER_OK: the first one is a wall
+ *     a finger goes down where both are               nobody is given it
  */
 
 /*
@@ -744,6 +750,32 @@ static inline int inputflinger_live_next(struct inputflinger_live *live, const s
 					 struct inputflinger_message *message)
 {
 	return inputflinger_live_next_sized(live, client, message, sizeof *message);
+}
+
+/*
+ * Hands out the next message of any client, in the order in which the service sent them, and releases it. Each client
+ * gets the messages that inputflinger_live_next would hand it, in the same order. Between clients, the messages of an
+ * earlier step come first. A step is one change of the windows or the focus, or one motion or key that a device gave; an
+ * event can give several. Of one step, motions come before keys and keys before the focus; of each, what ends comes
+ * first, then what goes on, then what begins; and then the lesser channel comes first. A message that had to wait,
+ * because its client had 64 unfinished ones, counts as sent by the finish that made room for it.
+ *
+ *     the focus moves from channel 2, which holds a key, to channel 1
+ *     next_any                                        INPUTFLINGER_OK: channel 2, the key goes up, cancelled
+ *     next_any                                        INPUTFLINGER_OK: channel 2, it has no focus
+ *     next_any                                        INPUTFLINGER_OK: channel 1, it has the focus, last
+ *     next_any                                        INPUTFLINGER_NOTHING
+ *
+ *     INPUTFLINGER_OK         client, message and last are written: *last is true if no message of the same step is left
+ *                             to hand out, as at the end of a frame of wl_touch; numbers that the kind of the message
+ *                             does not have are 0
+ *     INPUTFLINGER_NOTHING    no client has a message; none of the three is written
+ *     INPUTFLINGER_NO_MEMORY  only if the calls can no longer be counted in 64 bits; nothing changed
+ */
+static inline int inputflinger_live_next_any(struct inputflinger_live *live, struct inputflinger_client *client,
+					     struct inputflinger_message *message, bool *last)
+{
+	return inputflinger_live_next_any_sized(live, client, message, sizeof *message, last);
 }
 
 /*
