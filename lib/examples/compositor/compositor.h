@@ -23,6 +23,7 @@
 #include <wayland-server-core.h>
 #include <wlr/backend.h>
 #include <wlr/render/allocator.h>
+#include <wlr/types/wlr_keyboard.h>
 #include <wlr/types/wlr_output.h>
 #include <wlr/types/wlr_scene.h>
 #include <wlr/types/wlr_seat.h>
@@ -35,6 +36,7 @@
 #define WINDOWS 64
 #define RECTS 64
 #define POINTER_IDS 32
+#define TOUCH_IDS ((INPUTFLINGER_MAX_DEVICES + 1) * POINTER_IDS)
 
 struct server;
 
@@ -50,6 +52,8 @@ struct window {
 	struct wl_client *peer;
 	/* What a window of the compositor's own does with a message. */
 	void (*own)(struct server *server, const struct inputflinger_message *message);
+	/* Its next message, whose seq is 0 if there is none. */
+	struct inputflinger_message next;
 	/* The last message sent, the last one sent before the peer was pinged, and the last one finished. */
 	uint64_t sent, pinged, finished;
 	struct wl_listener destroy;
@@ -103,15 +107,15 @@ struct server {
 	/* The service, and the moment of the last call that was handed in. */
 	struct inputflinger_live live;
 	uint64_t limit_us, last_us;
-	/* By channel: its window, and its next message, whose seq is 0 if there is none. */
+	/* By channel: its window. */
 	struct window *at[CHANNELS + 1];
-	struct inputflinger_message heads[CHANNELS + 1];
 	struct wl_list windows;
 	struct snapshot shown, now;
 	/* How many windows have lost their surface and are not closed yet. */
 	int gone;
 	struct window *focus;
-	struct finger fingers[INPUTFLINGER_MAX_DEVICES + 1][POINTER_IDS];
+	/* By the id that wl_touch has for a pointer. */
+	struct finger fingers[TOUCH_IDS];
 
 	/* The compositor's own windows, and what they ask for once all messages are delivered. */
 	struct window *spy, *nobody;
@@ -124,6 +128,12 @@ struct server {
 	struct export *export;
 };
 
+/* Whether a message says that a finger goes down. */
+static inline bool is_down(const struct inputflinger_message *m)
+{
+	return m->kind == INPUTFLINGER_MOTION && (m->action == INPUTFLINGER_DOWN || m->action == INPUTFLINGER_POINTER_DOWN);
+}
+
 static inline void listen_to(struct wl_signal *signal, struct wl_listener *listener, wl_notify_func_t notify)
 {
 	listener->notify = notify;
@@ -134,6 +144,7 @@ static inline void listen_to(struct wl_signal *signal, struct wl_listener *liste
 const char *server_begin(struct server *s, struct wlr_backend *backend);
 void server_run(struct server *s);
 void server_end(struct server *s);
+bool server_key(struct server *s, struct wlr_keyboard *keyboard, const struct wlr_event_keyboard_key *event);
 
 /* shell.c */
 void shell_begin(struct server *s);

@@ -39,18 +39,20 @@ static FILE *open_in(const char *folder, const char *name)
 
 void export_begin(struct server *s, const char *folder)
 {
-	struct export *e = calloc(1, sizeof *e);
+	static struct export e;
 
-	if (!e)
-		return;
-	e->folder = folder;
-	e->recording = open_in(folder, "recording.txt");
-	e->steps = open_memstream(&e->steps_text, &e->steps_len);
-	s->export = e;
-	if (!e->recording || !e->steps) {
+	e.folder = folder;
+	e.recording = open_in(folder, "recording.txt");
+	e.steps = open_memstream(&e.steps_text, &e.steps_len);
+	if (e.recording && e.steps)
+		s->export = &e;
+	else
 		fprintf(stderr, "compositor: %s: no file can be written\n", folder);
-		s->export = NULL;
-	}
+}
+
+static bool is_open(struct server *s)
+{
+	return s->export && s->export->end_us == 0;
 }
 
 /* The export ends here, and the session says what came before. */
@@ -58,11 +60,6 @@ static void give_up(struct server *s, const char *why)
 {
 	s->export->end_us = s->last_us;
 	printf("export ends at %llu: %s\n", (unsigned long long)s->last_us, why);
-}
-
-static bool is_open(struct server *s)
-{
-	return s->export && s->export->end_us == 0;
 }
 
 static struct channel *channel_of(struct export *e, const char *name)
@@ -76,22 +73,18 @@ static struct channel *channel_of(struct export *e, const char *name)
 /* A window becomes a channel. A name that another channel has gets a number behind it. */
 void export_channel(struct server *s, struct window *w)
 {
+	struct export *e = s->export;
 	size_t len = strlen(w->name);
 
 	if (!is_open(s))
 		return;
-	if (s->export->count == CHANNELS) {
+	if (e->count == CHANNELS) {
 		give_up(s, "more than 64 windows");
 		return;
 	}
-	for (int number = 2; channel_of(s->export, w->name); number++)
+	for (int number = 2; channel_of(e, w->name); number++)
 		snprintf(w->name + len, sizeof w->name - len, "~%d", number);
-	strcpy(s->export->channels[s->export->count++].name, w->name);
-}
-
-static void step(struct server *s, const char *what)
-{
-	fprintf(s->export->steps, "\n[[step]]\nat_us = %llu\ndo = \"%s\"\n", (unsigned long long)s->last_us, what);
+	strcpy(e->channels[e->count++].name, w->name);
 }
 
 static void note_finishes(struct server *s, const struct window *w)
@@ -102,74 +95,72 @@ static void note_finishes(struct server *s, const struct window *w)
 		channel->never_finishes = w->sent > 0 && w->finished == 0;
 }
 
-void export_removed(struct server *s, const struct window *w)
+/* Writes a step, with the channel of a window if there is one. Whether the export is open. */
+static bool step(struct server *s, const char *what, const struct window *w)
 {
 	if (!is_open(s))
-		return;
-	note_finishes(s, w);
-	step(s, "remove");
-	fprintf(s->export->steps, "channel = \"%s\"\n", w->name);
+		return false;
+	fprintf(s->export->steps, "\n[[step]]\nat_us = %llu\ndo = \"%s\"\n", (unsigned long long)s->last_us, what);
+	if (w)
+		fprintf(s->export->steps, "channel = \"%s\"\n", w->name);
+	return true;
 }
 
-static void write_rect(FILE *file, const struct inputflinger_rect *rect)
+void export_removed(struct server *s, const struct window *w)
 {
-	fprintf(file, "[%d, %d, %d, %d]", rect->left, rect->top, rect->right, rect->bottom);
+	if (step(s, "remove", w))
+		note_finishes(s, w);
+}
+
+void export_focus(struct server *s)
+{
+	step(s, "focus", s->focus);
+}
+
+void export_pilfer(struct server *s, uint8_t device)
+{
+	if (step(s, "pilfer", s->spy))
+		fprintf(s->export->steps, "device = %u\n", device);
+}
+
+static void write_rect(FILE *file, const char *before, const struct inputflinger_rect *rect)
+{
+	fprintf(file, "%s[%d, %d, %d, %d]", before, rect->left, rect->top, rect->right, rect->bottom);
 }
 
 void export_windows(struct server *s)
 {
 	const struct inputflinger_rect *rect = s->shown.rects;
 
-	if (!is_open(s))
+	if (!step(s, "windows", NULL))
 		return;
-	step(s, "windows");
 	fputs("windows = [\n", s->export->steps);
 	for (size_t i = 0; i < s->shown.windows_len; i++) {
 		const struct inputflinger_window *window = &s->shown.windows[i];
 
-		fprintf(s->export->steps, "    { channel = \"%s\", frame = ", s->at[window->client.channel]->name);
-		write_rect(s->export->steps, &window->frame);
+		fprintf(s->export->steps, "    { channel = \"%s\", ", s->at[window->client.channel]->name);
+		write_rect(s->export->steps, "frame = ", &window->frame);
 		fputs(", region = [", s->export->steps);
-		for (uint32_t k = 0; k < window->rects; k++) {
-			fputs(k ? ", " : "", s->export->steps);
-			write_rect(s->export->steps, rect++);
-		}
+		for (uint32_t k = 0; k < window->rects; k++)
+			write_rect(s->export->steps, k ? ", " : "", rect++);
 		fprintf(s->export->steps, "], flags = [%s%s] },\n", window->flags & INPUTFLINGER_SPY ? "\"SPY\", " : "",
 			window->flags & INPUTFLINGER_NOT_FOCUSABLE ? "\"NOT_FOCUSABLE\"" : "");
 	}
 	fputs("]\n", s->export->steps);
 }
 
-void export_focus(struct server *s)
-{
-	if (!is_open(s))
-		return;
-	step(s, "focus");
-	if (s->focus)
-		fprintf(s->export->steps, "channel = \"%s\"\n", s->focus->name);
-}
-
-void export_pilfer(struct server *s, uint8_t device)
-{
-	if (!is_open(s))
-		return;
-	step(s, "pilfer");
-	fprintf(s->export->steps, "channel = \"%s\"\ndevice = %u\n", s->spy->name, device);
-}
-
 void export_event(struct server *s, uint8_t device, uint16_t type, uint16_t code, int32_t value)
 {
 	struct export *e = s->export;
 
+	if (is_open(s) && type != EV_SYN && e->kinds[device] != 0 && e->kinds[device] != type)
+		give_up(s, "a device number is that of a device of another kind");
 	if (!is_open(s))
 		return;
-	if (type != EV_SYN && e->kinds[device] == 0)
+	if (type != EV_SYN)
 		e->kinds[device] = type;
-	else if (type != EV_SYN && e->kinds[device] != type)
-		give_up(s, "a device number is that of a device of another kind");
-	if (e->end_us == 0)
-		fprintf(e->recording, "[%8llu.%06llu] /dev/input/event%u: %04x %04x %08x\n", (unsigned long long)s->last_us / 1000000,
-			(unsigned long long)s->last_us % 1000000, device, type, code, (uint32_t)value);
+	fprintf(e->recording, "[%8llu.%06llu] /dev/input/event%u: %04x %04x %08x\n", (unsigned long long)s->last_us / 1000000,
+		(unsigned long long)s->last_us % 1000000, device, type, code, (uint32_t)value);
 }
 
 static void write_session(struct server *s, FILE *file)
@@ -210,6 +201,5 @@ void export_end(struct server *s)
 	if (!file || fclose(file) != 0 || fclose(e->recording) != 0)
 		fprintf(stderr, "compositor: %s: the export could not be written\n", e->folder);
 	free(e->steps_text);
-	free(e);
 	s->export = NULL;
 }

@@ -29,7 +29,7 @@ static void spy_sees(struct server *s, const struct inputflinger_message *m)
 
 static void nobody_sees(struct server *s, const struct inputflinger_message *m)
 {
-	if (m->kind == INPUTFLINGER_MOTION && (m->action == INPUTFLINGER_DOWN || m->action == INPUTFLINGER_POINTER_DOWN))
+	if (is_down(m))
 		s->wants_dismiss = true;
 }
 

@@ -2,9 +2,6 @@
 #include <linux/input-event-codes.h>
 #include <stdlib.h>
 
-#include <wlr/types/wlr_keyboard.h>
-#include <xkbcommon/xkbcommon.h>
-
 #include "compositor.h"
 
 struct keys {
@@ -14,22 +11,14 @@ struct keys {
 	struct wl_listener key, modifiers, destroy;
 };
 
-/* Alt and Escape end the compositor. */
-static bool is_end(struct wlr_keyboard *keyboard, const struct wlr_event_keyboard_key *event)
-{
-	return event->keycode == KEY_ESC && event->state && (wlr_keyboard_get_modifiers(keyboard) & WLR_MODIFIER_ALT);
-}
-
 static void handle_key(struct wl_listener *listener, void *data)
 {
 	struct keys *k = wl_container_of(listener, k, key);
 	struct server *s = k->server;
 	struct wlr_event_keyboard_key *event = data;
 
-	if (is_end(k->device->keyboard, event)) {
-		s->is_running = false;
+	if (server_key(s, k->device->keyboard, event))
 		return;
-	}
 	service_begin(s);
 	wlr_seat_set_keyboard(s->seat, k->device);
 	service_event(s, k->number, EV_KEY, (uint16_t)event->keycode, event->state);
@@ -41,7 +30,6 @@ static void handle_modifiers(struct wl_listener *listener, void *data)
 {
 	struct keys *k = wl_container_of(listener, k, modifiers);
 
-	(void)data;
 	wlr_seat_set_keyboard(k->server->seat, k->device);
 	wlr_seat_keyboard_send_modifiers(k->server->seat, &k->device->keyboard->modifiers);
 }
@@ -50,7 +38,6 @@ static void handle_destroy(struct wl_listener *listener, void *data)
 {
 	struct keys *k = wl_container_of(listener, k, destroy);
 
-	(void)data;
 	wl_list_remove(&k->key.link);
 	wl_list_remove(&k->modifiers.link);
 	wl_list_remove(&k->destroy.link);
@@ -60,16 +47,8 @@ static void handle_destroy(struct wl_listener *listener, void *data)
 
 void keys_new(struct server *s, struct wlr_input_device *device)
 {
-	struct xkb_context *context = xkb_context_new(XKB_CONTEXT_NO_FLAGS);
-	struct xkb_keymap *keymap = xkb_keymap_new_from_names(context, NULL, XKB_KEYMAP_COMPILE_NO_FLAGS);
 	struct keys *k = calloc(1, sizeof *k);
 
-	if (keymap)
-		wlr_keyboard_set_keymap(device->keyboard, keymap);
-	xkb_keymap_unref(keymap);
-	xkb_context_unref(context);
-	/* Clients repeat keys by themselves. */
-	wlr_keyboard_set_repeat_info(device->keyboard, 20, 500);
 	if (!k || !service_took(inputflinger_live_add_keys(&s->live, 0, NULL, 0, &k->number, NULL), "add_keys")) {
 		free(k);
 		return;

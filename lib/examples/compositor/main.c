@@ -27,7 +27,6 @@ static uint64_t monotonic_us(void)
 
 static int handle_signal(int number, void *data)
 {
-	(void)number;
 	((struct server *)data)->is_running = false;
 	return 0;
 }

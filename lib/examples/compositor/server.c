@@ -1,7 +1,9 @@
 /* What wlroots needs: outputs, devices as they come, and the loop. */
+#include <linux/input-event-codes.h>
 #include <time.h>
 
 #include <wlr/types/wlr_compositor.h>
+#include <xkbcommon/xkbcommon.h>
 
 #include "compositor.h"
 
@@ -11,7 +13,6 @@ static void handle_frame(struct wl_listener *listener, void *data)
 	struct wlr_scene_output *scene = wlr_scene_get_scene_output(s->scene, s->output);
 	struct timespec now;
 
-	(void)data;
 	wlr_scene_output_commit(scene);
 	clock_gettime(CLOCK_MONOTONIC, &now);
 	wlr_scene_output_send_frame_done(scene, &now);
@@ -41,15 +42,39 @@ static void handle_output(struct wl_listener *listener, void *data)
 	wlr_scene_node_lower_to_bottom(&wlr_scene_rect_create(&s->scene->node, s->width, s->height, color)->node);
 }
 
+/* A keyboard of the keymap that XKB_DEFAULT_LAYOUT and its like name. Clients repeat keys by themselves. */
+static void set_keymap(struct wlr_keyboard *keyboard)
+{
+	struct xkb_context *context = xkb_context_new(XKB_CONTEXT_NO_FLAGS);
+	struct xkb_keymap *keymap = xkb_keymap_new_from_names(context, NULL, XKB_KEYMAP_COMPILE_NO_FLAGS);
+
+	if (keymap)
+		wlr_keyboard_set_keymap(keyboard, keymap);
+	xkb_keymap_unref(keymap);
+	xkb_context_unref(context);
+	wlr_keyboard_set_repeat_info(keyboard, 20, 500);
+}
+
+/* Whether a key is for the compositor itself: Alt and Escape end it. */
+bool server_key(struct server *s, struct wlr_keyboard *keyboard, const struct wlr_event_keyboard_key *event)
+{
+	if (event->keycode != KEY_ESC || !event->state || !(wlr_keyboard_get_modifiers(keyboard) & WLR_MODIFIER_ALT))
+		return false;
+	s->is_running = false;
+	return true;
+}
+
 static void handle_input(struct wl_listener *listener, void *data)
 {
 	struct server *s = wl_container_of(listener, s, new_input);
 	struct wlr_input_device *device = data;
 
-	if (device->type == WLR_INPUT_DEVICE_TOUCH)
+	if (device->type == WLR_INPUT_DEVICE_TOUCH) {
 		touch_new(s, device);
-	else if (device->type == WLR_INPUT_DEVICE_KEYBOARD)
+	} else if (device->type == WLR_INPUT_DEVICE_KEYBOARD) {
+		set_keymap(device->keyboard);
 		keys_new(s, device);
+	}
 }
 
 const char *server_begin(struct server *s, struct wlr_backend *backend)

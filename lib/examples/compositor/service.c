@@ -33,8 +33,8 @@ static void finish(struct window *w, uint64_t seq)
 {
 	struct server *s = w->server;
 
-	while (w->finished < seq)
-		service_took(inputflinger_live_finish(&s->live, s->last_us, &w->client, ++w->finished), "finish");
+	if (w->finished < seq && service_took(inputflinger_live_finish_through(&s->live, s->last_us, &w->client, seq), "finish"))
+		w->finished = seq;
 }
 
 static void deliver_to(struct window *w, const struct inputflinger_message *m)
@@ -55,81 +55,58 @@ static void deliver_to(struct window *w, const struct inputflinger_message *m)
 /* Of one moment: motions, keys, the focus; and of each what ends before what begins. */
 static int rank(const struct inputflinger_message *m)
 {
-	if (m->kind == INPUTFLINGER_KEY)
-		return 3 + 2 * m->down;
-	if (m->kind == INPUTFLINGER_FOCUS)
-		return 6 + 2 * m->focus;
-	if (m->action == INPUTFLINGER_DOWN || m->action == INPUTFLINGER_POINTER_DOWN)
-		return 2;
-	return m->action == INPUTFLINGER_MOVE || m->action == INPUTFLINGER_OUTSIDE ? 1 : 0;
+	if (m->kind != INPUTFLINGER_MOTION)
+		return m->kind == INPUTFLINGER_KEY ? 3 + 2 * m->down : 6 + 2 * m->focus;
+	return is_down(m) ? 2 : m->action == INPUTFLINGER_MOVE || m->action == INPUTFLINGER_OUTSIDE;
 }
 
-static bool is_before(struct server *s, int one, int other)
+static bool is_before(const struct window *one, const struct window *other)
 {
-	const struct inputflinger_message *m = &s->heads[one], *n = &s->heads[other];
+	const struct inputflinger_message *m = &one->next, *n = &other->next;
 
 	if (m->moment_us != n->moment_us)
 		return m->moment_us < n->moment_us;
 	if (rank(m) != rank(n))
 		return rank(m) < rank(n);
-	return s->at[one]->client.generation < s->at[other]->client.generation;
+	return one->client.generation < other->client.generation;
 }
 
-static void take_next(struct server *s, int channel)
+/* The window whose message comes first; NULL if there is no message. The service hands them out client by client, so each window keeps its next one. */
+static struct window *first_window(struct server *s)
 {
-	s->heads[channel].seq = 0;
-	if (s->at[channel])
-		inputflinger_live_next(&s->live, &s->at[channel]->client, &s->heads[channel]);
+	struct window *first = NULL, *w;
+
+	wl_list_for_each(w, &s->windows, link) {
+		if (w->next.seq == 0)
+			inputflinger_live_next(&s->live, &w->client, &w->next);
+		if (w->next.seq != 0 && (!first || is_before(w, first)))
+			first = w;
+	}
+	return first;
 }
 
-/* Sends all messages. The service hands them out client by client; what two clients are sent is put into its order here. */
+/* Sends all messages, and ends what was sent with a frame. */
 static void deliver(struct server *s)
 {
-	uint64_t waiting = 0;
-
-	inputflinger_live_waiting(&s->live, &waiting);
-	for (int channel = 1; channel <= CHANNELS; channel++)
-		if (waiting >> (channel - 1) & 1)
-			take_next(s, channel);
-	for (;;) {
-		int first = 0;
-
-		for (int channel = 1; channel <= CHANNELS; channel++)
-			if (s->heads[channel].seq && (!first || is_before(s, channel, first)))
-				first = channel;
-		if (!first)
-			break;
-		deliver_to(s->at[first], &s->heads[first]);
-		take_next(s, first);
-	}
+	for (struct window *w; (w = first_window(s)) != NULL; w->next.seq = 0)
+		deliver_to(w, &w->next);
 	touch_frames(s);
 }
 
-/* Runs what is due at a moment, and prints which windows do not respond. */
-static bool advance(struct server *s, uint64_t moment_us)
-{
-	uint64_t late = 0;
-
-	if (!service_took(inputflinger_live_advance(&s->live, moment_us, &late), "advance"))
-		return false;
-	for (int channel = 1; channel <= CHANNELS; channel++)
-		if (late >> (channel - 1) & 1)
-			printf("late %llu %s: message %llu is not finished\n", (unsigned long long)moment_us, s->at[channel]->name,
-			       (unsigned long long)s->at[channel]->finished + 1);
-	deliver(s);
-	return true;
-}
-
-/* Runs what is due up to now, each at its own moment. Whether anything was. */
+/* Runs what is due up to now, each at its own moment, and prints which windows do not respond. Whether anything was due. */
 static bool run_due(struct server *s, uint64_t now_us)
 {
+	uint64_t due, late = 0;
 	bool has_run = false;
-	uint64_t due;
 
-	while (inputflinger_live_due(&s->live, &due) == INPUTFLINGER_OK && due <= now_us) {
+	while (inputflinger_live_due(&s->live, &due) == INPUTFLINGER_OK && due <= now_us &&
+	       service_took(inputflinger_live_advance(&s->live, due, &late), "advance")) {
 		s->last_us = due > s->last_us ? due : s->last_us;
-		if (!advance(s, due))
-			return false;
+		for (int channel = 1; channel <= CHANNELS; channel++)
+			if (late >> (channel - 1) & 1)
+				printf("late %llu %s: message %llu is not finished\n", (unsigned long long)due, s->at[channel]->name,
+				       (unsigned long long)s->at[channel]->finished + 1);
+		deliver(s);
 		has_run = true;
 	}
 	return has_run;

@@ -92,7 +92,6 @@ static void view_map(struct wl_listener *listener, void *data)
 {
 	struct view *view = wl_container_of(listener, view, map);
 
-	(void)data;
 	if (is_popup(view) && view->xdg->popup->seat)
 		wl_list_insert(view->server->grabs.prev, &view->link);
 	if ((!is_popup(view) || view->xdg->popup->seat) && shell_view(view->xdg->surface))
@@ -103,7 +102,6 @@ static void view_unmap(struct wl_listener *listener, void *data)
 {
 	struct view *view = wl_container_of(listener, view, unmap);
 
-	(void)data;
 	if (!is_popup(view))
 		return;
 	wl_list_remove(&view->link);
@@ -114,7 +112,6 @@ static void view_destroy(struct wl_listener *listener, void *data)
 {
 	struct view *view = wl_container_of(listener, view, destroy);
 
-	(void)data;
 	if (view->server->wants_raise == view)
 		view->server->wants_raise = NULL;
 	wl_list_remove(&view->link);

@@ -120,7 +120,6 @@ static void handle_frame(struct wl_listener *listener, void *data)
 {
 	struct panel *p = wl_container_of(listener, p, frame);
 
-	(void)data;
 	if (p->number != 0)
 		report(p);
 }
@@ -130,7 +129,6 @@ static void handle_destroy(struct wl_listener *listener, void *data)
 	struct panel *p = wl_container_of(listener, p, destroy);
 	struct wl_listener *all[] = {&p->down, &p->up, &p->motion, &p->cancel, &p->frame, &p->destroy};
 
-	(void)data;
 	for (size_t i = 0; i < sizeof all / sizeof all[0]; i++)
 		wl_list_remove(&all[i]->link);
 	if (p->number != 0)
@@ -155,12 +153,11 @@ void touch_new(struct server *s, struct wlr_input_device *device)
 	listen_to(&device->events.destroy, &p->destroy, handle_destroy);
 }
 
-/* Sends an action to all wl_touch of a window's peer. */
-static void send(struct window *w, const struct inputflinger_message *m, int action, const struct inputflinger_pointer *at)
+/* Sends an action of a finger to all wl_touch of a window's peer. */
+static void send(struct window *w, const struct inputflinger_message *m, int action, int32_t id, const struct inputflinger_pointer *at)
 {
 	struct wlr_seat_client *client = wlr_seat_client_for_wl_client(w->server->seat, w->peer);
 	wl_fixed_t x = at->x * (256 / w->server->unit), y = at->y * (256 / w->server->unit);
-	int32_t id = m->device * POINTER_IDS + (int32_t)at->id;
 	uint32_t ms = (uint32_t)(m->moment_us / 1000), serial = 0;
 	struct wl_resource *touch;
 
@@ -184,43 +181,33 @@ static void send(struct window *w, const struct inputflinger_message *m, int act
 /* Forgets the fingers of a window, or all those of a peer: what the service sends of them later is left out. */
 void touch_forget(struct server *s, struct window *w, struct wl_client *peer)
 {
-	for (int device = 1; device <= INPUTFLINGER_MAX_DEVICES; device++)
-		for (int id = 0; id < POINTER_IDS; id++) {
-			struct window *held = s->fingers[device][id].window;
-
-			if (held && (held == w || held->peer == peer))
-				s->fingers[device][id].window = NULL;
-		}
+	for (int id = 0; id < TOUCH_IDS; id++)
+		if (s->fingers[id].window && (s->fingers[id].window == w || s->fingers[id].window->peer == peer))
+			s->fingers[id].window = NULL;
 }
 
+/* wl_touch.cancel ends all fingers of a peer. */
 void touch_send(struct window *w, const struct inputflinger_message *m)
 {
 	struct server *s = w->server;
-	bool is_down = m->action == INPUTFLINGER_DOWN || m->action == INPUTFLINGER_POINTER_DOWN;
 	bool is_canceled = m->action == INPUTFLINGER_CANCEL || (m->flags & INPUTFLINGER_FLAG_CANCELED);
 	bool is_of_all = m->action == INPUTFLINGER_MOVE || m->action == INPUTFLINGER_CANCEL;
+	int action = is_down(m) ? INPUTFLINGER_DOWN : is_canceled ? INPUTFLINGER_CANCEL : is_of_all ? INPUTFLINGER_MOVE : INPUTFLINGER_UP;
 
-	for (int i = 0; i < m->count; i++) {
+	for (int i = 0; i < m->count && m->action != INPUTFLINGER_OUTSIDE; i++) {
 		const struct inputflinger_pointer *at = &m->pointers[i];
-		struct finger *finger = &s->fingers[m->device][at->id];
+		int32_t id = m->device * POINTER_IDS + (int32_t)at->id;
+		struct finger *finger = &s->fingers[id];
 
-		if (m->action == INPUTFLINGER_OUTSIDE || (!is_of_all && i != m->index) || (!is_down && finger->window != w))
+		if ((!is_of_all && i != m->index) || (action != INPUTFLINGER_DOWN && finger->window != w))
 			continue;
-		if (is_down) {
-			s->wants_raise = shell_view(w->surface);
-			send(w, m, INPUTFLINGER_DOWN, at);
-		} else if (is_canceled) {
-			/* wl_touch.cancel ends all fingers of a peer. */
-			send(w, m, INPUTFLINGER_CANCEL, at);
+		if (action != INPUTFLINGER_MOVE || finger->x != at->x || finger->y != at->y)
+			send(w, m, action, id, at);
+		*finger = (struct finger){action == INPUTFLINGER_UP ? NULL : w, at->x, at->y};
+		if (action == INPUTFLINGER_CANCEL)
 			touch_forget(s, w, w->peer);
-		} else if (m->action != INPUTFLINGER_MOVE) {
-			send(w, m, INPUTFLINGER_UP, at);
-			finger->window = NULL;
-		} else if (finger->x != at->x || finger->y != at->y) {
-			send(w, m, INPUTFLINGER_MOVE, at);
-		}
-		if (is_down || finger->window)
-			*finger = (struct finger){w, at->x, at->y};
+		else if (action == INPUTFLINGER_DOWN)
+			s->wants_raise = shell_view(w->surface);
 	}
 }
 
@@ -231,10 +218,9 @@ void touch_frames(struct server *s)
 	struct wl_resource *touch;
 
 	wl_list_for_each(client, &s->seat->clients, link) {
-		if (!client->needs_touch_frame)
-			continue;
-		client->needs_touch_frame = false;
 		wl_resource_for_each(touch, &client->touches)
-			wl_touch_send_frame(touch);
+			if (client->needs_touch_frame)
+				wl_touch_send_frame(touch);
+		client->needs_touch_frame = false;
 	}
 }

@@ -11,14 +11,13 @@ static void surface_destroyed(struct wl_listener *listener, void *data)
 {
 	struct window *w = wl_container_of(listener, w, destroy);
 
-	(void)data;
 	wl_list_remove(&w->destroy.link);
 	w->surface = NULL;
 	w->server->gone++;
 	windows_settle(w->server);
 }
 
-/* A client of the service for a surface, or for a window of the compositor's own; NULL if there is none left. */
+/* A client of the service for a surface, or a named one for a window of the compositor's own; NULL if there is none left. */
 struct window *window_new(struct server *s, struct wlr_surface *surface, const char *name)
 {
 	struct window *w = calloc(1, sizeof *w);
@@ -30,41 +29,35 @@ struct window *window_new(struct server *s, struct wlr_surface *surface, const c
 	w->server = s;
 	s->at[w->client.channel] = w;
 	wl_list_insert(&s->windows, &w->link);
-	snprintf(w->name, sizeof w->name, "%s", name);
-	export_channel(s, w);
 	if (surface) {
 		w->surface = surface;
 		w->peer = wl_resource_get_client(surface->resource);
 		surface->data = w;
 		listen_to(&surface->events.destroy, &w->destroy, surface_destroyed);
+		shell_name(surface, w->name, sizeof w->name);
+	} else {
+		snprintf(w->name, sizeof w->name, "%s", name);
 	}
+	export_channel(s, w);
 	return w;
 }
 
-/* Ends a client whose window is no longer shown, so that nothing is sent by this. */
-static void window_close(struct window *w)
-{
-	struct server *s = w->server;
-
-	if (!service_took(inputflinger_live_close(&s->live, s->last_us, &w->client), "close"))
-		return;
-	export_removed(s, w);
-	touch_forget(s, w, NULL);
-	s->focus = s->focus == w ? NULL : s->focus;
-	s->at[w->client.channel] = NULL;
-	s->heads[w->client.channel].seq = 0;
-	wl_list_remove(&w->link);
-	s->gone--;
-	free(w);
-}
-
+/* Ends the clients whose surface is gone. Their windows are no longer shown, so nothing is sent by this. */
 static void close_gone(struct server *s)
 {
 	struct window *w, *next;
 
-	wl_list_for_each_safe(w, next, &s->windows, link)
-		if (!w->surface && !w->own)
-			window_close(w);
+	wl_list_for_each_safe(w, next, &s->windows, link) {
+		if (w->surface || w->own || !service_took(inputflinger_live_close(&s->live, s->last_us, &w->client), "close"))
+			continue;
+		export_removed(s, w);
+		touch_forget(s, w, NULL);
+		s->focus = s->focus == w ? NULL : s->focus;
+		s->at[w->client.channel] = NULL;
+		wl_list_remove(&w->link);
+		s->gone--;
+		free(w);
+	}
 }
 
 static int32_t units(const struct server *s, int64_t pixels)
@@ -85,9 +78,7 @@ static void add(struct server *s, struct window *w, int64_t x, int64_t y, pixman
 {
 	struct inputflinger_window *window = &s->now.windows[s->now.windows_len++];
 
-	memset(window, 0, sizeof *window);
-	window->client.generation = w->client.generation;
-	window->client.channel = w->client.channel;
+	window->client = w->client;
 	window->frame = rect(s, x, y, &size);
 	window->flags = flags;
 	window->rects = (uint32_t)len;
@@ -108,18 +99,12 @@ static void add_own(struct server *s, struct window *w, uint32_t flags)
  */
 static void add_surface(struct server *s, struct wlr_surface *surface, int64_t x, int64_t y)
 {
-	struct window *w = surface->data;
+	struct window *w = surface->data ? surface->data : window_new(s, surface, NULL);
 	pixman_region32_t *region = &surface->input_region;
 	pixman_box32_t size = {0, 0, surface->current.width, surface->current.height};
 	int len;
 	pixman_box32_t *boxes = pixman_region32_rectangles(region, &len);
 
-	if (!w) {
-		char name[48];
-
-		shell_name(surface, name, sizeof name);
-		w = window_new(s, surface, name);
-	}
 	if (!w)
 		wl_client_post_no_memory(wl_resource_get_client(surface->resource));
 	if (!w || !w->surface)
@@ -151,7 +136,7 @@ static void collect(struct server *s)
 {
 	struct view *view, *grabbed = shell_grabbed(s);
 
-	s->now.windows_len = s->now.rects_len = 0;
+	memset(&s->now, 0, sizeof s->now);
 	add_own(s, s->spy, INPUTFLINGER_SPY);
 	wl_list_for_each(view, &s->views, link) {
 		add_node(s, view->node, 0, 0);
@@ -161,13 +146,6 @@ static void collect(struct server *s)
 	}
 	if (!grabbed)
 		add_own(s, s->nobody, 0);
-}
-
-static bool is_shown(const struct server *s)
-{
-	return s->now.windows_len == s->shown.windows_len && s->now.rects_len == s->shown.rects_len &&
-	       memcmp(s->now.windows, s->shown.windows, s->now.windows_len * sizeof s->now.windows[0]) == 0 &&
-	       memcmp(s->now.rects, s->shown.rects, s->now.rects_len * sizeof s->now.rects[0]) == 0;
 }
 
 /* Shows the windows and asks for the focus, if they changed, and ends the clients whose surface is gone: all at one moment. */
@@ -181,7 +159,7 @@ void windows_settle(struct server *s)
 	if (s->width == 0)
 		return;
 	collect(s);
-	is_same = is_shown(s);
+	is_same = memcmp(&s->now, &s->shown, sizeof s->now) == 0;
 	focus = surface && surface->data && ((struct window *)surface->data)->surface ? surface->data : NULL;
 	if (is_same && focus == s->focus && s->gone == 0)
 		return;
