@@ -81,36 +81,35 @@ fn make(dispatcher: &mut Dispatcher, call: &Call) -> Result<(), AllocError> {
 
 /// A motion comes.
 fn hand_in(dispatcher: &mut Dispatcher, motion: Motion, now: Moment) -> Result<(), AllocError> {
-    make(
-        dispatcher,
-        &Call::Notify {
-            now,
-            args: Args::Motion(motion),
-        },
-    )
+    match dispatcher.notify(now, &Args::Motion(motion)) {
+        Ok(_) => Ok(()),
+        Err(error) => Err(error),
+    }
 }
 
-/// The number of the message that was received, if one was.
-fn number_of(reply: &Reply) -> Option<u64> {
-    match reply {
-        Reply::Got(message) => Some(message.seq),
-        _ => None,
+/// What waits is dispatched.
+fn pump(dispatcher: &mut Dispatcher, now: Moment) -> Result<(), AllocError> {
+    match dispatcher.pump(now) {
+        Ok(_) => Ok(()),
+        Err(error) => Err(error),
     }
 }
 
 /// The number of the next message of a channel, which its owner takes.
 fn receive(dispatcher: &mut Dispatcher, channel: u32) -> Result<Option<u64>, AllocError> {
-    match dispatcher.apply(&Call::Receive { channel }) {
-        Ok(reply) => Ok(number_of(&reply)),
-        Err(error) => Err(error),
-    }
+    let seq = match dispatcher.next(channel) {
+        Some(message) => message.seq,
+        None => return Ok(None),
+    };
+    dispatcher.receive(channel)?;
+    Ok(Some(seq))
 }
 
 /// The owner of a channel receives its next message and finishes it. Returns how many messages that were.
 fn own(dispatcher: &mut Dispatcher, channel: u32, now: Moment) -> Result<u64, AllocError> {
     match receive(dispatcher, channel)? {
         Some(seq) => {
-            make(dispatcher, &Call::Finish { now, channel, seq })?;
+            let _ = dispatcher.finish(now, channel, seq)?;
             dispatcher.release(channel);
             Ok(1)
         }
@@ -126,7 +125,7 @@ fn round(
     now: Moment,
 ) -> Result<u64, AllocError> {
     hand_in(dispatcher, motion, now)?;
-    make(dispatcher, &Call::Pump { now })?;
+    pump(dispatcher, now)?;
     let mut taken: u64 = 0;
     for channel in 1..=channels {
         taken = taken.saturating_add(own(dispatcher, channel, now)?);
