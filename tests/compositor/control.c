@@ -1,7 +1,7 @@
 /*
- * The compositor of lib/examples/compositor on a headless display of 1280x720, with commands on standard input in place of devices and a clock. Each is
- * answered by a line `ok`, or by one that begins with `error`. It ends with the input. Its words are the milliseconds of the limit, and the folder of the
- * export.
+ * The compositor of lib/examples/compositor on a headless display of 1280x720, with commands on standard input in place
+ * of devices and a clock. Each is answered by a line `ok`, or by one that begins with `error`. It ends with the input.
+ * Its word is the milliseconds of the limit.
  *
  *     clock US                  the time is now this
  *     plug D touch|keys         plugs in a device, which has the number D here, 1 to 8
@@ -17,8 +17,6 @@
  *     clients                   answers `ok N`: so many clients are connected
  *     last                      answers `ok US`: the moment of what was handed in last
  */
-#include <stdlib.h>
-#include <string.h>
 #include <unistd.h>
 
 #include <wlr/backend/headless.h>
@@ -168,18 +166,17 @@ static int handle_input(int fd, uint32_t mask, void *data)
 
 int main(int count, char **words)
 {
-	static struct server s = {.clock_us = clock_us, .is_clock_still = true};
+	static struct server s = {.clock_us = clock_us};
 	static struct control c = {.server = &s};
 	struct wl_event_source *input;
 	struct wlr_backend *backend;
 	const char *socket;
 
-	if (count != 3)
+	if (count != 2)
 		return 2;
 	wlr_log_init(WLR_SILENT, NULL);
 	s.limit_us = strtoull(words[1], NULL, 10) * 1000;
 	s.display = wl_display_create();
-	export_begin(&s, words[2]);
 	backend = wlr_headless_backend_create(s.display);
 	wlr_headless_add_output(backend, 1280, 720);
 	socket = server_begin(&s, backend);

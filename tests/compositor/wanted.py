@@ -1,4 +1,4 @@
-"""What clients of the compositor are to print, from the streams that `inputflinger replay` says of its exported session.
+"""What clients of the compositor are to print, from the streams that `inputflinger replay` says of the session of its journal.
 
 This is docs/COMPOSITOR.md in another language: what wl_touch and wl_keyboard say of a message, and in which order messages of several windows come."""
 import re
@@ -13,7 +13,7 @@ class Message:
 
     def __init__(self, channel, line):
         seq, moment, kind, *words = line.split(" ")
-        self.channel, self.seq, self.moment, self.kind = channel, int(seq), int(moment), kind
+        self.channel, self.seq, self.moment, self.kind, self.step = channel, int(seq), int(moment), kind, 0
         if kind == "motion":
             self.device, (self.action, _, index) = int(words[0]), words[1].partition(":")
             self.index, self.is_canceled = int(index or 0), "canceled" in words or self.action == "CANCEL"
@@ -22,10 +22,10 @@ class Message:
             self.rank = 2 if self.action in BEGINS else 0 if self.action in ENDS else 1
         elif kind == "key":
             self.scan, self.is_down, self.repeat = int(words[1]), words[4] == "DOWN", int(words[-1])
-            self.rank = 3 + 2 * self.is_down
+            self.rank = 3 + self.is_down
         else:
             self.focus = words[0] == "1"
-            self.rank = 6 + 2 * self.focus
+            self.rank = 5 + self.focus
 
 
 def streams_of(text):
@@ -42,15 +42,48 @@ def streams_of(text):
     return streams
 
 
-def in_order(streams):
-    """All messages: each stream in its own order; of those that may come next the earliest, by moment, what it says, and channel."""
+def reports_of(replayed):
+    """The windows that do not respond: of each report its moment, channel and message."""
+    return [tuple(int(word) for word in line.split(" ")[1:]) for line in replayed.splitlines() if line.startswith("anr ")]
+
+
+def number_steps(streams, spy):
+    """Numbers the steps of each packet. The spy is sent a motion by each of them, and so is any other window while it has a finger of the device: from the
+    first one if it had one before, and otherwise from the one by which its first finger goes down."""
+    begins = {}
+    for is_spy in (True, False):
+        for channel, stream in streams.items():
+            moment = step = None
+            for message in stream if (channel == spy) == is_spy else ():
+                if message.kind == "motion":
+                    step = step + 1 if message.moment == moment else 0
+                    if not is_spy and message.action == "DOWN":
+                        step = begins[message.moment, message.device, message.pointers[0][0]]
+                    elif is_spy and message.action in BEGINS:
+                        begins[message.moment, message.device, message.pointers[message.index][0]] = step
+                    message.step, moment = step, message.moment
+
+
+def in_order(streams, session, reports):
+    """All messages as the service sends them, step by step: each stream in its own order; of those that may come next the earliest, by moment, step, what
+    it says, and channel of the service. What is handed in at one moment is a step of the session, or a packet; before it each report is a step."""
+    channels = session["channel"]
+    number_steps(streams, next(channel for channel, table in enumerate(channels, 1) if table["name"] == "spy"))
+    reported, steps = {report[:2] for report in reports}, {step["at_us"] for step in session["step"]}
+
+    def place(message):
+        channel = channels[message.channel - 1]["live"]
+        if (message.moment, message.channel) in reported:
+            return message.moment, 0, channel, message.rank, channel
+        return message.moment, 1, 0 if message.moment in steps else message.step, message.rank, channel
+
     heads = {channel: iter(stream) for channel, stream in streams.items()}
     firsts = {channel: next(head, None) for channel, head in heads.items()}
     while True:
         ready = [message for message in firsts.values() if message is not None]
         if not ready:
             return
-        first = min(ready, key=lambda message: (message.moment, message.rank, message.channel))
+        first = min(ready, key=place)
         yield first
         firsts[first.channel] = next(heads[first.channel], None)
 
@@ -64,9 +97,8 @@ class Peer:
     def place(self, x, y):
         return "%.8g,%.8g" % (x / self.unit, y / self.unit)
 
-    def touch(self, surface, message):
-        if message.action == "OUTSIDE":
-            return
+    def touch(self, surface, message, is_gone):
+        """A surface that is gone has no cancel: its fingers go up."""
         ms = message.moment // 1000 % 2**32
         of_all = message.action in ("MOVE", "CANCEL")
         for i, (number, x, y) in enumerate(message.pointers):
@@ -78,7 +110,7 @@ class Peer:
                 self.fingers[finger] = (surface, x, y)
                 self.has_frame = True
             elif finger in self.fingers and self.fingers[finger][0] == surface:
-                if message.is_canceled:
+                if message.is_canceled and not is_gone:
                     self.printed.append("cancel")
                     self.fingers = {}
                 elif message.action != "MOVE":
@@ -121,29 +153,30 @@ def surfaces_of(session, printed):
 
 
 def wanted(session_text, replayed, printed, lasts):
-    """What each client is to print of touches, keys and the focus; `lasts` has the last moment of those that were killed."""
+    """What each client is to print of touches, keys and the focus; `lasts` has the last moment before it ended."""
     session = tomllib.loads(session_text)
     unit = int(re.search(r"# Each pixel is (\d+) units", session_text).group(1))
     surfaces = surfaces_of(session, printed)
     numbers = {table["name"]: channel for channel, table in enumerate(session["channel"], 1)}
     removed = {numbers[step["channel"]]: step["at_us"] for step in session["step"] if step["do"] == "remove"}
     peers, moment = {name: Peer(unit) for name in printed}, None
-    for message in in_order(streams_of(replayed)):
+    for message in in_order(streams_of(replayed), session, reports_of(replayed)):
         if message.moment != moment:
             for peer in peers.values():
                 peer.end_frame()
         moment = message.moment
-        # What is sent in the step in which a surface goes, nobody receives.
-        if message.channel not in surfaces or moment >= removed.get(message.channel, moment + 1):
+        if message.channel not in surfaces:
             continue
         name, surface = surfaces[message.channel]
-        if moment > lasts.get(name, moment):
+        if moment > lasts[name]:
             continue
+        # In the step in which a surface goes, nobody can name it any more.
+        is_gone = moment >= removed.get(message.channel, moment + 1)
         if message.kind == "motion":
-            peers[name].touch(surface, message)
+            peers[name].touch(surface, message, is_gone)
         elif message.kind == "key":
             peers[name].key(message)
-        else:
+        elif not is_gone:
             peers[name].focused(surface, message)
     for peer in peers.values():
         peer.end_frame()
@@ -151,10 +184,10 @@ def wanted(session_text, replayed, printed, lasts):
 
 
 def late(session_text, replayed):
-    """What the compositor is to print of windows that do not respond."""
-    names = [table["name"] for table in tomllib.loads(session_text)["channel"]]
-    reports = [line.split(" ")[1:] for line in replayed.splitlines() if line.startswith("anr ")]
-    return ["late %s %s: message %s is not finished" % (clock, names[int(channel) - 1], seq) for clock, channel, seq in reports]
+    """What the compositor is to print of windows that do not respond: at one moment by their channels of the service."""
+    channels = tomllib.loads(session_text)["channel"]
+    reports = sorted(reports_of(replayed), key=lambda report: (report[0], channels[report[1] - 1]["live"]))
+    return ["late %d %s: message %d is not finished" % (moment, re.sub(r"~\d+$", "", channels[channel - 1]["name"]), seq) for moment, channel, seq in reports]
 
 
 def of_input(lines):

@@ -45,14 +45,14 @@ class Driven:
 
 
 class World:
-    """A compositor with clients, by name. `folder` is for the socket and the export."""
+    """A compositor with clients, by name. `folder` is for the socket and the journal."""
 
     def __init__(self, folder, compositor, client, limit_ms="5000"):
         self.folder, self.client, self.clients, self.killed = folder, client, {}, {}
-        self.env = dict(os.environ, XDG_RUNTIME_DIR=folder, WLR_RENDERER="pixman", WLR_LIBINPUT_NO_DEVICES="1")
+        self.env = dict(os.environ, XDG_RUNTIME_DIR=folder, INPUTFLINGER_JOURNAL=folder, WLR_RENDERER="pixman", WLR_LIBINPUT_NO_DEVICES="1")
         self.env.pop("WAYLAND_DISPLAY", None)
         with open(os.path.join(folder, "errors.txt"), "w", encoding="utf-8") as errors:
-            self.compositor = Driven([compositor, limit_ms, folder], self.env, errors)
+            self.compositor = Driven([compositor, limit_ms], self.env, errors)
         self.env["WAYLAND_DISPLAY"] = self.compositor.line().removeprefix("socket ")
 
     def client_of(self, name):
@@ -63,7 +63,7 @@ class World:
     def kill(self, name):
         """Kills a client, and waits until the compositor knows."""
         client = self.clients.pop(name)
-        self.killed[name] = client, int(self.ask_compositor("last").split(" ")[1])
+        self.killed[name] = client, self.last()
         client.kill()
         while not self.ask_compositor("clients").endswith(" %d" % len(self.clients)):
             pass
@@ -102,16 +102,20 @@ class World:
             printed += ["%s: %s" % (name, line) for line in self.clients[name].ask("sync")[1]]
         return printed
 
+    def last(self):
+        """The moment of what was handed in last."""
+        return int(self.ask_compositor("last").split(" ")[1])
+
     def end(self):
-        """Ends all. The status of the compositor; what each client printed; and of those that were killed the last moment before."""
+        """Ends all. The status of the compositor; and of each client what it printed, and the last moment before it ended or was killed."""
+        last = self.last()
         self.compositor.process.stdin.close()
         self.compositor.process.stdout.read()
         status = self.compositor.process.wait()
         for client in self.clients.values():
             client.kill()
-        printed = {name: client.printed for name, client in self.clients.items()}
-        printed.update((name, client.printed) for name, (client, _) in self.killed.items())
-        return status, printed, {name: last for name, (_, last) in self.killed.items()}
+        ended = {**self.killed, **{name: (client, last) for name, client in self.clients.items()}}
+        return status, {name: client.printed for name, (client, _) in ended.items()}, {name: moment for name, (_, moment) in ended.items()}
 
     def abandon(self):
         for driven in [*self.clients.values(), self.compositor]:

@@ -1,20 +1,18 @@
 /*
- * The compositor's own windows. A spy in front of all others sees every finger: three that go down by a quarter of the display are taken away from
- * the windows, and the hindmost view comes to the front. A window of nobody behind all others takes the fingers that no surface has; behind a popup
- * with a grab, such a finger closes the popup.
+ * What the compositor itself makes of fingers. Its spy, in front of all windows, sees each of them: three that move
+ * down by a quarter of the display are taken away from the windows, and the hindmost toplevel comes to the front. A
+ * finger raises the toplevel that it goes to; one that goes to no surface closes popups with a grab.
  */
 #include "compositor.h"
 
 #define SWIPE_FINGERS 3
 
-static void spy_sees(struct server *s, const struct inputflinger_message *m)
+static void swipe(struct server *s, const struct inputflinger_message *m)
 {
 	int32_t far = s->height * s->unit / 4;
 
-	if (m->kind != INPUTFLINGER_MOTION)
-		return;
 	/* It begins when the last finger comes. */
-	for (int i = 0; i < m->count && m->action == INPUTFLINGER_POINTER_DOWN; i++)
+	for (int i = 0; i < m->count && is_down(m); i++)
 		s->swipe_y[m->pointers[i].id] = m->pointers[i].y;
 	if (m->action != INPUTFLINGER_MOVE || m->count != SWIPE_FINGERS)
 		return;
@@ -27,45 +25,35 @@ static void spy_sees(struct server *s, const struct inputflinger_message *m)
 	s->wants_pilfer = m->device;
 }
 
-static void nobody_sees(struct server *s, const struct inputflinger_message *m)
+/* A message on its way to a window. */
+void gesture_see(struct window *w, const struct inputflinger_message *m)
 {
-	if (is_down(m))
-		s->wants_dismiss = true;
+	struct server *s = w->server;
+
+	if (w == s->spy && m->kind == INPUTFLINGER_MOTION)
+		swipe(s, m);
+	if (!is_down(m))
+		return;
+	s->unclaimed += w == s->spy ? 1 : -1;
+	if (w->surface)
+		s->wants_raise = shell_view(w->surface);
 }
 
-/* Does what messages asked for, once all are delivered: each is a call of its own. */
+/* Does what messages asked for, once all are sent. */
 void gesture_act(struct server *s)
 {
 	if (s->wants_pilfer) {
-		uint8_t device = s->wants_pilfer;
-
+		service_begin(s);
+		service_took(inputflinger_live_pilfer(&s->live, s->last_us, &s->spy->client, s->wants_pilfer),
+			     "pilfer");
+		service_end(s);
 		s->wants_pilfer = 0;
 		s->wants_raise = shell_hindmost(s);
-		service_begin(s);
-		if (inputflinger_live_pilfer(&s->live, s->last_us, &s->spy->client, device) == INPUTFLINGER_OK)
-			export_pilfer(s, device);
-		service_end(s);
 	}
-	if (s->wants_dismiss) {
-		s->wants_dismiss = false;
+	if (s->unclaimed > 0)
 		shell_dismiss(s);
-	}
-	if (s->wants_raise) {
-		struct view *view = s->wants_raise;
-
-		s->wants_raise = NULL;
-		shell_raise(view);
-		windows_settle(s);
-	}
-}
-
-bool gesture_begin(struct server *s)
-{
-	s->spy = window_new(s, NULL, "spy");
-	s->nobody = window_new(s, NULL, "nobody");
-	if (!s->spy || !s->nobody)
-		return false;
-	s->spy->own = spy_sees;
-	s->nobody->own = nobody_sees;
-	return true;
+	s->unclaimed = 0;
+	if (s->wants_raise)
+		shell_raise(s->wants_raise);
+	s->wants_raise = NULL;
 }

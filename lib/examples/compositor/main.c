@@ -1,16 +1,13 @@
 /*
- * A small Wayland compositor over wlroots 0.15, which gives touches and keys to its clients by the rules of a live service.
+ * A small Wayland compositor over wlroots 0.15. A live service decides which of its clients get touches and keys.
  *
- *     compositor [--export FOLDER] [--limit MS]
+ *     compositor [--limit MS]
  *
- *     --export FOLDER   at the end, what was handed in as FOLDER/session.toml and FOLDER/recording.txt, for `inputflinger replay`
- *     --limit MS        a window that leaves a message unfinished for so long is reported; 5000 if not given
+ *     --limit MS   a window that leaves a message unfinished for so long is reported; 5000 if not given
  *
- * It prints the name of its socket, and each window that does not respond. Alt+Escape ends it, and so do SIGINT and SIGTERM.
+ * It prints the name of its socket, and each window that does not respond. Alt+Escape, SIGINT and SIGTERM end it.
  */
 #include <signal.h>
-#include <stdlib.h>
-#include <string.h>
 #include <time.h>
 
 #include <wlr/util/log.h>
@@ -37,17 +34,13 @@ int main(int count, char **words)
 	struct wl_event_source *signals[2];
 	const char *socket;
 
-	s.display = wl_display_create();
-	for (int i = 1; i < count; i += 2) {
-		if (i + 1 < count && strcmp(words[i], "--export") == 0) {
-			export_begin(&s, words[i + 1]);
-		} else if (i + 1 < count && strcmp(words[i], "--limit") == 0) {
-			s.limit_us = strtoull(words[i + 1], NULL, 10) * 1000;
-		} else {
-			fprintf(stderr, "usage: compositor [--export FOLDER] [--limit MS]\n");
-			return 2;
-		}
+	if (count == 3 && strcmp(words[1], "--limit") == 0) {
+		s.limit_us = strtoull(words[2], NULL, 10) * 1000;
+	} else if (count != 1) {
+		fprintf(stderr, "usage: compositor [--limit MS]\n");
+		return 2;
 	}
+	s.display = wl_display_create();
 	wlr_log_init(WLR_ERROR, NULL);
 	signals[0] = wl_event_loop_add_signal(wl_display_get_event_loop(s.display), SIGINT, handle_signal, &s);
 	signals[1] = wl_event_loop_add_signal(wl_display_get_event_loop(s.display), SIGTERM, handle_signal, &s);

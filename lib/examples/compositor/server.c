@@ -18,7 +18,7 @@ static void handle_frame(struct wl_listener *listener, void *data)
 	wlr_scene_output_send_frame_done(scene, &now);
 }
 
-/* The first output is the display; others stay dark. Its units are as fine as the service takes them, at most those of wl_fixed. */
+/* The first output is the display; others stay dark. Its units are as fine as the service and wl_fixed take them. */
 static void handle_output(struct wl_listener *listener, void *data)
 {
 	static const float color[4] = {0.2f, 0.3f, 0.4f, 1.0f};
@@ -37,12 +37,12 @@ static void handle_output(struct wl_listener *listener, void *data)
 	s->output = output;
 	s->width = output->width;
 	s->height = output->height;
-	for (s->unit = 256; s->unit > 1 && (s->width * s->unit > 16384 || s->height * s->unit > 16384); s->unit /= 2)
+	for (s->unit = 256; s->unit > 1 && (s->width * s->unit > UNITS || s->height * s->unit > UNITS); s->unit /= 2)
 		;
 	wlr_scene_node_lower_to_bottom(&wlr_scene_rect_create(&s->scene->node, s->width, s->height, color)->node);
 }
 
-/* A keyboard of the keymap that XKB_DEFAULT_LAYOUT and its like name. Clients repeat keys by themselves. */
+/* All keyboards have the keymap that XKB_DEFAULT_LAYOUT and its like name. Clients repeat keys by themselves. */
 static void set_keymap(struct wlr_keyboard *keyboard)
 {
 	struct xkb_context *context = xkb_context_new(XKB_CONTEXT_NO_FLAGS);
@@ -56,9 +56,10 @@ static void set_keymap(struct wlr_keyboard *keyboard)
 }
 
 /* Whether a key is for the compositor itself: Alt and Escape end it. */
-bool server_key(struct server *s, struct wlr_keyboard *keyboard, const struct wlr_event_keyboard_key *event)
+bool server_key(struct server *s, const struct wlr_event_keyboard_key *event)
 {
-	if (event->keycode != KEY_ESC || !event->state || !(wlr_keyboard_get_modifiers(keyboard) & WLR_MODIFIER_ALT))
+	if (event->keycode != KEY_ESC || !event->state ||
+	    !(wlr_keyboard_get_modifiers(&s->keyboards->keyboard) & WLR_MODIFIER_ALT))
 		return false;
 	s->is_running = false;
 	return true;
@@ -72,8 +73,8 @@ static void handle_input(struct wl_listener *listener, void *data)
 	if (device->type == WLR_INPUT_DEVICE_TOUCH) {
 		touch_new(s, device);
 	} else if (device->type == WLR_INPUT_DEVICE_KEYBOARD) {
-		set_keymap(device->keyboard);
-		keys_new(s, device);
+		wlr_keyboard_set_keymap(device->keyboard, s->keyboards->keyboard.keymap);
+		wlr_keyboard_group_add_keyboard(s->keyboards, device->keyboard);
 	}
 }
 
@@ -90,9 +91,14 @@ const char *server_begin(struct server *s, struct wlr_backend *backend)
 	shell_begin(s);
 	s->seat = wlr_seat_create(s->display, "seat0");
 	wlr_seat_set_capabilities(s->seat, WL_SEAT_CAPABILITY_KEYBOARD | WL_SEAT_CAPABILITY_TOUCH);
+	s->keyboards = wlr_keyboard_group_create();
+	set_keymap(&s->keyboards->keyboard);
+	wlr_seat_set_keyboard(s->seat, s->keyboards->input_device);
 	listen_to(&backend->events.new_output, &s->new_output, handle_output);
 	listen_to(&backend->events.new_input, &s->new_input, handle_input);
-	return service_new(s) && wlr_backend_start(backend) ? wl_display_add_socket_auto(s->display) : NULL;
+	if (!service_new(s) || !keys_new(s) || !wlr_backend_start(backend))
+		return NULL;
+	return wl_display_add_socket_auto(s->display);
 }
 
 void server_run(struct server *s)
@@ -100,9 +106,9 @@ void server_run(struct server *s)
 	struct wl_event_loop *loop = wl_display_get_event_loop(s->display);
 
 	for (s->is_running = true; s->is_running;) {
-		service_tick(s);
+		gesture_act(s);
 		windows_settle(s);
-		service_pings(s);
+		service_tick(s);
 		fflush(stdout);
 		wl_display_flush_clients(s->display);
 		if (wl_event_loop_dispatch(loop, service_wait_ms(s)) < 0)
@@ -112,10 +118,10 @@ void server_run(struct server *s)
 
 void server_end(struct server *s)
 {
-	export_end(s);
 	wl_display_destroy_clients(s->display);
-	/* The devices go with the backend, while there is a service; the seat goes before the shell, whose grabs it has. */
+	/* Devices go with the backend, while there is a service; the seat goes before the shell, whose grabs it has. */
 	wlr_backend_destroy(s->backend);
+	wlr_keyboard_group_destroy(s->keyboards);
 	wlr_seat_destroy(s->seat);
 	wlr_scene_node_destroy(&s->scene->node);
 	wlr_allocator_destroy(s->allocator);

@@ -1,6 +1,4 @@
 /* Toplevels and popups: where they are, which is in front, and which surface should have the keys. */
-#include <stdlib.h>
-
 #include "compositor.h"
 
 static bool is_popup(const struct view *view)
@@ -25,7 +23,8 @@ struct view *shell_view(struct wlr_surface *surface)
 void shell_name(struct wlr_surface *surface, char *name, size_t size)
 {
 	struct view *view = shell_view(surface);
-	const char *app_id = view ? view->xdg->toplevel->app_id : NULL, *title = view ? view->xdg->toplevel->title : NULL;
+	const char *app_id = view ? view->xdg->toplevel->app_id : NULL;
+	const char *title = view ? view->xdg->toplevel->title : NULL;
 	int len = snprintf(name, size, "%.18s/%.18s", app_id ? app_id : "", title ? title : "");
 
 	if (!view || view->xdg->surface != surface)
@@ -33,13 +32,6 @@ void shell_name(struct wlr_surface *surface, char *name, size_t size)
 	for (; *name; name++)
 		if (*name < '!' || *name > '~' || *name == '"' || *name == '\\')
 			*name = '_';
-}
-
-void shell_raise(struct view *view)
-{
-	wl_list_remove(&view->link);
-	wl_list_insert(&view->server->views, &view->link);
-	wlr_scene_node_raise_to_top(view->node);
 }
 
 struct view *shell_hindmost(struct server *s)
@@ -60,12 +52,22 @@ static struct view *last_grab(struct server *s)
 	return wl_list_empty(&s->grabs) ? NULL : popup;
 }
 
-/* The toplevel whose popup has a grab, or NULL. */
-struct view *shell_grabbed(struct server *s)
+/* While a popup has a grab, fingers beside its toplevel are nobody's: a wall lies behind it. */
+static void place_wall(struct server *s)
 {
-	struct view *popup = last_grab(s);
+	struct view *popup = last_grab(s), *view = popup ? shell_view(popup->xdg->surface) : NULL;
 
-	return popup ? shell_view(popup->xdg->surface) : NULL;
+	wlr_scene_node_set_enabled(&s->wall->node, view != NULL);
+	if (view)
+		wlr_scene_node_place_below(&s->wall->node, view->node);
+}
+
+void shell_raise(struct view *view)
+{
+	wl_list_remove(&view->link);
+	wl_list_insert(&view->server->views, &view->link);
+	wlr_scene_node_raise_to_top(view->node);
+	place_wall(view->server);
 }
 
 /* Closes all popups with a grab, the last one first. */
@@ -106,6 +108,7 @@ static void view_unmap(struct wl_listener *listener, void *data)
 		return;
 	wl_list_remove(&view->link);
 	wl_list_init(&view->link);
+	place_wall(view->server);
 }
 
 static void view_destroy(struct wl_listener *listener, void *data)
@@ -114,6 +117,7 @@ static void view_destroy(struct wl_listener *listener, void *data)
 
 	if (view->server->wants_raise == view)
 		view->server->wants_raise = NULL;
+	view->xdg->data = NULL;
 	wl_list_remove(&view->link);
 	wl_list_remove(&view->map.link);
 	wl_list_remove(&view->unmap.link);
@@ -153,6 +157,10 @@ void shell_begin(struct server *s)
 {
 	wl_list_init(&s->views);
 	wl_list_init(&s->grabs);
+	s->wall = wlr_scene_rect_create(&s->scene->node, 0, 0, (float[4]){0});
+	wlr_scene_node_set_enabled(&s->wall->node, false);
 	s->shell = wlr_xdg_shell_create(s->display);
+	/* wlroots may not give up a ping: the service reports who is late. */
+	s->shell->ping_timeout = INT32_MAX;
 	listen_to(&s->shell->events.new_surface, &s->new_surface, handle_surface);
 }

@@ -1,7 +1,4 @@
-/* Surfaces become windows of the service: each surface of a toplevel, its subsurfaces and its popups is a client with a window. */
-#include <stdlib.h>
-#include <string.h>
-
+/* Surfaces become windows of the service: each surface of a toplevel, its subsurfaces and its popups is a client. */
 #include "compositor.h"
 
 /* A client may place a subsurface anywhere: what is farther away than this, in units, counts as so far. */
@@ -12,167 +9,115 @@ static void surface_destroyed(struct wl_listener *listener, void *data)
 	struct window *w = wl_container_of(listener, w, destroy);
 
 	wl_list_remove(&w->destroy.link);
-	w->surface = NULL;
-	w->server->gone++;
+	w->server->gone = w;
 	windows_settle(w->server);
+	w->surface = NULL;
 }
 
-/* A client of the service for a surface, or a named one for a window of the compositor's own; NULL if there is none left. */
-struct window *window_new(struct server *s, struct wlr_surface *surface, const char *name)
+/* A client of the service for a surface, or for the spy; NULL if there is none left. */
+struct window *window_new(struct server *s, struct wlr_surface *surface)
 {
-	struct window *w = calloc(1, sizeof *w);
+	struct inputflinger_client client = {0};
+	struct window *w;
 
-	if (!w || !service_took(inputflinger_live_open(&s->live, &w->client), "open")) {
-		free(w);
+	if (inputflinger_live_open(&s->live, &client) != INPUTFLINGER_OK)
 		return NULL;
-	}
-	w->server = s;
-	s->at[w->client.channel] = w;
-	wl_list_insert(&s->windows, &w->link);
+	w = &s->windows[client.channel - 1];
+	*w = (struct window){.server = s, .client = client, .surface = surface, .name = "spy"};
 	if (surface) {
-		w->surface = surface;
-		w->peer = wl_resource_get_client(surface->resource);
 		surface->data = w;
 		listen_to(&surface->events.destroy, &w->destroy, surface_destroyed);
 		shell_name(surface, w->name, sizeof w->name);
-	} else {
-		snprintf(w->name, sizeof w->name, "%s", name);
 	}
-	export_channel(s, w);
 	return w;
-}
-
-/* Ends the clients whose surface is gone. Their windows are no longer shown, so nothing is sent by this. */
-static void close_gone(struct server *s)
-{
-	struct window *w, *next;
-
-	wl_list_for_each_safe(w, next, &s->windows, link) {
-		if (w->surface || w->own || !service_took(inputflinger_live_close(&s->live, s->last_us, &w->client), "close"))
-			continue;
-		export_removed(s, w);
-		touch_forget(s, w, NULL);
-		s->focus = s->focus == w ? NULL : s->focus;
-		s->at[w->client.channel] = NULL;
-		wl_list_remove(&w->link);
-		s->gone--;
-		free(w);
-	}
 }
 
 static int32_t units(const struct server *s, int64_t pixels)
 {
-	int64_t units = pixels * s->unit;
-
-	return (int32_t)(units < -FAR ? -FAR : units > FAR ? FAR : units);
+	return (int32_t)fmax(-FAR, fmin((double)pixels * s->unit, FAR));
 }
 
 /* A box that begins at a place, in pixels of the display. */
-static struct inputflinger_rect rect(const struct server *s, int64_t x, int64_t y, const pixman_box32_t *box)
+static struct inputflinger_rect rect(const struct server *s, int64_t x, int64_t y, const pixman_box32_t *b)
 {
-	return (struct inputflinger_rect){units(s, x + box->x1), units(s, y + box->y1), units(s, x + box->x2), units(s, y + box->y2)};
-}
-
-/* Adds a window of this size at a place, which can be touched in these boxes. */
-static void add(struct server *s, struct window *w, int64_t x, int64_t y, pixman_box32_t size, const pixman_box32_t *boxes, int len, uint32_t flags)
-{
-	struct inputflinger_window *window = &s->now.windows[s->now.windows_len++];
-
-	window->client = w->client;
-	window->frame = rect(s, x, y, &size);
-	window->flags = flags;
-	window->rects = (uint32_t)len;
-	for (int i = 0; i < len; i++)
-		s->now.rects[s->now.rects_len++] = rect(s, x, y, &boxes[i]);
-}
-
-static void add_own(struct server *s, struct window *w, uint32_t flags)
-{
-	pixman_box32_t all = {0, 0, s->width, s->height};
-
-	add(s, w, 0, 0, all, &all, 1, flags | INPUTFLINGER_NOT_FOCUSABLE);
+	return (struct inputflinger_rect){units(s, x + b->x1), units(s, y + b->y1), units(s, x + b->x2),
+					  units(s, y + b->y2)};
 }
 
 /*
- * A surface can be touched where its input region says; one of more than 64 rectangles becomes its bounds. If there is no client left for a surface, its
- * peer has to go: fingers would fall through what it shows.
+ * Adds a window of this size at a place, behind those that were added before. Without a client it is a wall, so that no
+ * finger falls through it. It can be touched in a region; one of more than 64 rectangles becomes its bounds.
  */
-static void add_surface(struct server *s, struct wlr_surface *surface, int64_t x, int64_t y)
+static void add(struct server *s, struct window *w, int x, int y, int width, int height, pixman_region32_t *region)
 {
-	struct window *w = surface->data ? surface->data : window_new(s, surface, NULL);
-	pixman_region32_t *region = &surface->input_region;
-	pixman_box32_t size = {0, 0, surface->current.width, surface->current.height};
-	int len;
-	pixman_box32_t *boxes = pixman_region32_rectangles(region, &len);
+	struct inputflinger_window *window = &s->now.windows[s->now.windows_len];
+	pixman_box32_t size = {0, 0, width, height}, *boxes;
+	int len = 1;
 
-	if (!w)
-		wl_client_post_no_memory(wl_resource_get_client(surface->resource));
-	if (!w || !w->surface)
+	if (s->now.windows_len == WINDOWS)
 		return;
+	boxes = region ? pixman_region32_rectangles(region, &len) : &size;
 	if (len > RECTS) {
-		len = 1;
 		boxes = pixman_region32_extents(region);
+		len = 1;
 	}
-	add(s, w, x, y, size, boxes, len, 0);
+	if (w)
+		window->client = w->client;
+	window->frame = rect(s, x, y, &size);
+	window->rects = (uint32_t)len;
+	for (int i = 0; i < len; i++)
+		s->now.rects[s->now.rects_len++] = rect(s, x, y, &boxes[i]);
+	s->now.windows_len++;
 }
 
-/* Adds what a node of the scene shows, front to back; its parent is at this place. */
-static void add_node(struct server *s, struct wlr_scene_node *node, int64_t x, int64_t y)
+/*
+ * Adds what a node of the scene shows, front to back. A rectangle of the compositor's own is a wall over the display.
+ * The last window that the service takes is one too: what is behind it gets no fingers.
+ */
+static void add_node(struct server *s, struct wlr_scene_node *node)
 {
 	struct wlr_scene_node *child;
+	int x, y;
 
-	if (!node->state.enabled)
-		return;
-	x += node->state.x;
-	y += node->state.y;
 	wl_list_for_each_reverse(child, &node->state.children, state.link)
-		add_node(s, child, x, y);
-	if (node->type == WLR_SCENE_NODE_SURFACE)
-		add_surface(s, wlr_scene_surface_from_node(node)->surface, x, y);
-}
+		add_node(s, child);
+	if (!wlr_scene_node_coords(node, &x, &y))
+		return;
+	if (node->type == WLR_SCENE_NODE_RECT || s->now.windows_len == WINDOWS - 1) {
+		add(s, NULL, 0, 0, s->width, s->height, NULL);
+	} else if (node->type == WLR_SCENE_NODE_SURFACE) {
+		struct wlr_surface *surface = wlr_scene_surface_from_node(node)->surface;
 
-/* The windows as the scene has them now. */
-static void collect(struct server *s)
-{
-	struct view *view, *grabbed = shell_grabbed(s);
-
-	memset(&s->now, 0, sizeof s->now);
-	add_own(s, s->spy, INPUTFLINGER_SPY);
-	wl_list_for_each(view, &s->views, link) {
-		add_node(s, view->node, 0, 0);
-		/* While a popup grabs, its view is in front, and fingers beside it are nobody's. */
-		if (view == grabbed)
-			add_own(s, s->nobody, 0);
+		add(s, surface->data ? surface->data : window_new(s, surface), x, y, surface->current.width,
+		    surface->current.height, &surface->input_region);
 	}
-	if (!grabbed)
-		add_own(s, s->nobody, 0);
 }
 
-/* Shows the windows and asks for the focus, if they changed, and ends the clients whose surface is gone: all at one moment. */
+/*
+ * Shows the windows as the scene has them, and asks for the focus, if they changed; closes the client whose surface is
+ * gone, if there is one. All is at one moment.
+ */
 void windows_settle(struct server *s)
 {
 	struct wlr_surface *surface = shell_focus(s);
 	struct window *focus;
-	uint64_t named;
-	bool is_same;
 
-	if (s->width == 0)
-		return;
-	collect(s);
-	is_same = memcmp(&s->now, &s->shown, sizeof s->now) == 0;
-	focus = surface && surface->data && ((struct window *)surface->data)->surface ? surface->data : NULL;
-	if (is_same && focus == s->focus && s->gone == 0)
+	memset(&s->now, 0, sizeof s->now);
+	add(s, s->spy, 0, 0, s->width, s->height, NULL);
+	s->now.windows[0].flags = INPUTFLINGER_SPY;
+	add_node(s, &s->scene->node);
+	focus = surface ? surface->data : NULL;
+	if (memcmp(&s->now, &s->shown, sizeof s->now) == 0 && focus == s->focus && !s->gone)
 		return;
 	service_begin(s);
-	if (!is_same && service_took(inputflinger_live_windows(&s->live, s->last_us, s->now.windows, s->now.windows_len, s->now.rects,
-							       s->now.rects_len, &named), "windows")) {
+	if (service_took(inputflinger_live_windows(&s->live, s->last_us, s->now.windows, s->now.windows_len,
+						   s->now.rects, s->now.rects_len, NULL), "windows"))
 		s->shown = s->now;
-		export_windows(s);
-	}
-	if (focus != s->focus && service_took(inputflinger_live_focus(&s->live, s->last_us, 0, focus ? &focus->client : NULL), "focus")) {
+	if (focus != s->focus &&
+	    service_took(inputflinger_live_focus(&s->live, s->last_us, 0, focus ? &focus->client : NULL), "focus"))
 		s->focus = focus;
-		export_focus(s);
-	}
-	close_gone(s);
 	service_end(s);
+	if (s->gone && service_took(inputflinger_live_close(&s->live, s->last_us, &s->gone->client), "close"))
+		*s->gone = (struct window){0};
+	s->gone = NULL;
 }
