@@ -35,7 +35,7 @@ nothing_more : (ws : List Window) → ws ++ [] ≡ ws
 nothing_more [] = refl
 nothing_more (w ∷ ws) = ap (λ xs. w ∷ xs) (nothing_more ws)
 
-twice_parts : (b : Bool) (k : ℕ) (later : Option ℕ) → cond b (Some k) later ≡ None → (b ≡ false) × (later ≡ None)
+pub twice_parts : (b : Bool) (k : ℕ) (later : Option ℕ) → cond b (Some k) later ≡ None → (b ≡ false) × (later ≡ None)
 twice_parts true k later e = absurd (some≢none k e)
   where
     some≢none : (k : ℕ) → Some k ≡ None → ⊥

@@ -12,25 +12,20 @@ use Rattle.dispatch_history.specs.Legal.{answered}
 use Rattle.dispatch_history.specs.Ordered.{extend}
 use Rattle.dispatcher.specs.declared.input_channel.unfinished.Unfinished.{Unfinished}
 use Rattle.dispatcher.specs.InputChannel.Order.{Follow, IsInOrder, has_seq}
-use Rattle.dispatcher.specs.Memory.{IsCalm, MayCount}
+use Rattle.dispatcher.specs.Memory.{MayCount}
 use Rattle.dispatcher.proofs.DispatchTables.Kept.{channel_law}
 use Rattle.dispatcher.proofs.DispatchTables.Unfinished.{has_seq_law}
 use Rattle.dispatcher.proofs.DispatchTables.Waiting.{with_delivery}
 use Rattle.live_input.specs.declared.client.Seat.{Seat}
 use Rattle.live_input.specs.declared.refused.FinishRefused.{FinishRefused}
 use Rattle.live_input.specs.Seats.{IsHeld}
-use Rattle.live_input.specs.Standing.{IsOfHeld, LiveIs, is_plain}
+use Rattle.live_input.specs.Standing.{LiveIs}
+use Rattle.live_input.specs.Receiving.{IsEasy}
 use Rattle.live_input.specs.Settling.{Reaches}
 use Rattle.live_input.specs.State.{LiveState}
 use Rattle.live_input.specs.Through.{FinishesThrough, Stops, ThroughLaw, next_through, through_call}
 use Rattle.live_input.proofs.Following.{extend_last, follows_last}
 use Rattle.live_input.proofs.Outgoing.{live_lawful}
-
--- a call that an open client may make, and that needs no memory
-pub record IsEasy (seats : List Seat) (call : Call) : Type 0 where
-  pub plain : is_plain call ≡ true
-  pub own : IsOfHeld seats call
-  pub calm : (es : List Effect) → IsCalm es call
 
 easy_call : (seats : List Seat) (now c last : ℕ) (o : Option ℕ) (call : Call) → IsHeld c seats → through_call now c last o ≡ Some call
     → IsEasy seats call

@@ -12,11 +12,13 @@ use Rattle.dispatch_history.specs.Legal.{answered}
 use Rattle.dispatch_history.specs.Reply.{reply_to}
 use Rattle.live_input.specs.declared.refused.ArgsRefused.{ArgsRefused}
 use Rattle.live_input.specs.declared.refused.ArgsRefused.TheVariants.{NoDevice, Inconsistent, Memory, Waits}
+use Rattle.live_input.specs.declared.refused.FinishRefused.{FinishRefused}
+use Rattle.live_input.specs.declared.refused.FinishRefused.TheVariants.{UnknownSeq}
 use Rattle.window_snapshot.specs.Mask.{mask_has}
 use Rattle.live_input.specs.Advancing.{Advances, Advanced}
 use Rattle.dispatch_calls.specs.declared.call.Call.{Call}
 use Rattle.dispatch_history.specs.History.{moment_of}
-use Rattle.live_input.specs.Answers.{Makes, is_taken}
+use Rattle.live_input.specs.Answers.{Finishes, Makes, is_done, is_taken}
 use Rattle.live_input.specs.declared.client.Client.{Client}
 use Rattle.live_input.specs.Closing.{forgotten, hidden}
 use Rattle.live_input.specs.Opening.{Closes}
@@ -166,6 +168,15 @@ live_later ds es s n h = beside_goes ds es s h s.devices s.pending n
 pub made : (ds : List ℕ) (es : List Effect) (s : LiveState) (n : ℕ) (call other : Call) → call ≡ other → n ≡ moment_of other
     → LiveIs ds (answered ds call es) s → Makes ds es other (record s { clock = n })
 made ds es s n call other e m h = (live_later ds (answered ds other es) s n (subst (λ k. LiveIs ds (answered ds k es) s) e h), m)
+
+-- a finish was made, of a message that could be finished, or not
+pub finishes_ok : (ds : List ℕ) (es : List Effect) (call : Call) (r : Result (Unit {0}) FinishRefused) (old new : LiveState) → r ≡ Ok tt
+    → is_done (reply_to es call) ≡ true → Makes ds es call new → Finishes ds es call r old new
+finishes_ok ds es call r old new e done goes = subst (λ x. Finishes ds es call x old new) (sym e) ((done, goes))
+
+pub finishes_not : (ds : List ℕ) (es : List Effect) (call : Call) (r : Result (Unit {0}) FinishRefused) (old new : LiveState) → r ≡ Err UnknownSeq
+    → is_done (reply_to es call) ≡ false → Makes ds es call new → Finishes ds es call r old new
+finishes_not ds es call r old new e done goes = subst (λ x. Finishes ds es call x old new) (sym e) ((done, goes))
 
 -- a client is closed at the clock, whichever way that is said
 pub closed_at : (ds : List ℕ) (es : List Effect) (k : Client) (old new : LiveState) (n m : ℕ) → n ≡ m → Closes k old new → new.clock ≡ m

@@ -1,12 +1,11 @@
 -- Which message is handed out next, and to whom.
-use Rattle.std.proofs.Common.{◌≡◌, ℕ, zero, suc, ◌≤◌, ◌<◌, ◌&&◌, min, Bool, true, false, not, cond, List, length, Option, Some, None, Ok, refl, sym, ap, ap₂, ◌∙◌, subst, inl, inr, arith}
+use Rattle.std.proofs.Common.{◌≡◌, ℕ, zero, suc, ◌≤◌, ◌<◌, ◌&&◌, min, Bool, true, false, cond, List, length, Option, Some, None, Ok, refl, sym, ap, ap₂, ◌∙◌, subst, inl, inr, arith}
 use Rattle.std.specs.Prelude.{is_some, ◌-◌, ◌^◌}
 use Rattle.std.proofs.lemmas.Bool.{cases_Bool, cases_eq, cases_lt, eq-eqb, true≢false}
 use Rattle.input_types.specs.declared.message.Message.{Message}
 use Rattle.dispatch_calls.specs.declared.call.Call.TheVariants.{Receive}
 use Rattle.dispatch_history.specs.Effect.{Effect, past_of}
 use Rattle.dispatch_history.specs.History.{opened}
-use Rattle.dispatch_history.specs.Legal.{answered}
 use Rattle.dispatch_history.specs.Reply.{reply_to}
 use Rattle.dispatcher.specs.Access.{got}
 use Rattle.dispatcher.proofs.DispatchTables.Ables.{opened_few}
@@ -18,13 +17,15 @@ use Rattle.live_input.specs.declared.next_any.Handed.{Handed}
 use Rattle.live_input.specs.declared.next_any.Place.{Place}
 use Rattle.live_input.specs.Answers.{for_client, handed}
 use Rattle.live_input.specs.HandingOut.{HandsOut, handed_as}
-use Rattle.live_input.specs.Order.{IsReady, first_of, is_before, next_any, place, placed, rank, same_step, sooner}
+use Rattle.live_input.specs.Receiving.{receives}
+use Rattle.live_input.specs.Order.{IsReady, first_of, is_before, is_last, next_any, place, placed, sooner}
 use Rattle.live_input.specs.OrderLaws.{ClientsLaw, EarliestLaw, NotAfter}
 use Rattle.live_input.specs.Seats.{client_at, client_of, is_held, is_of, is_open, seat_of}
 use Rattle.live_input.specs.Standing.{LiveIs}
 use Rattle.live_input.specs.State.{LiveState}
 use Rattle.live_input.proofs.Noting.{channel_is}
 use Rattle.live_input.proofs.Outgoing.{live_lawful}
+use Rattle.live_input.proofs.Received.{receiving_few}
 use Rattle.live_input.proofs.Ordering.{got_published, below, none_first, before_true, before_false}
 
 -- the one that comes first is one of the channels, and its message is there
@@ -219,17 +220,17 @@ none_found ds es s f h first e =
 pub hands_out : (ds : List ℕ) (es : List Effect) (old new : LiveState) (f : First) (k : Client) (m : Option Message) (r : Option Handed)
     → LiveIs ds es old → next_any es ≡ Some f → IsClient old.seats f.channel k
     → m ≡ handed (seat_of old.seats k.channel) (got (reply_to es (Receive k.channel)))
-    → LiveIs ds (answered ds (Receive k.channel) es) new
-    → r ≡ handed_as k (not (same_step f.place (next_any (answered ds (Receive k.channel) es)))) m
+    → LiveIs ds (receives ds es old k.channel) new
+    → r ≡ handed_as k (is_last (receives ds es old k.channel) f) m
     → HandsOut ds es (Ok r) old new
 hands_out ds es old new f k m r h first client message is result =
     let t = first_there ds es old f h first in
     let c = client.channel_is in
     let got_is = subst (λ n. m ≡ handed (seat_of old.seats n) (got (reply_to es (Receive n)))) c message in
-    let after = subst (λ n. LiveIs ds (answered ds (Receive n) es) new) c is in
-    let given = subst (λ n. r ≡ handed_as k (not (same_step f.place (next_any (answered ds (Receive n) es)))) m) c result in
+    let after = subst (λ n. LiveIs ds (receives ds es old n) new) c is in
+    let given = subst (λ n. r ≡ handed_as k (is_last (receives ds es old n) f) m) c result in
     let seat = seat_of old.seats f.channel in
-    let last = not (same_step f.place (next_any (answered ds (Receive f.channel) es))) in
+    let last = is_last (receives ds es old f.channel) f in
     let y = for_client seat t.message in
     let is_y : m ≡ Some y = got_is ∙ ap (handed seat) t.message_is in
     let is_r : r ≡ Some (record { client = k; message = y; last = last }) = given ∙ ap (handed_as k last) is_y in
@@ -251,7 +252,11 @@ ready_now ds es s h e =
     record { stands = h.stands; steps_are = h.steps_are; counted = omega (arith, few) }
 
 pub ready_then : (ds : List ℕ) (es : List Effect) (s t : LiveState) (c : ℕ) → LiveIs ds es s → (s.steps.made ≡ 2 ^ 64 - 1 → ⊥)
-    → LiveIs ds (answered ds (Receive c) es) t → IsReady (answered ds (Receive c) es) t.dispatcher t.steps
+    → LiveIs ds (receives ds es s c) t → IsReady (receives ds es s c) t.dispatcher t.steps
 ready_then ds es s t c h e after =
     let few = fewer s.steps.made (length es) h.steps_are.made_is e in
-    record { stands = after.stands; steps_are = after.steps_are; counted = omega (arith, few) }
+    record {
+      stands = after.stands;
+      steps_are = after.steps_are;
+      counted = receiving_few ds (seat_of s.seats c) s.clock c es (omega (arith, few));
+    }

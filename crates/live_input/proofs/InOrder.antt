@@ -1,9 +1,8 @@
 -- The order in which the messages of two windows are handed out, worked out by hand.
-use Rattle.std.proofs.Common.{◌≡◌, ℕ, zero, suc, true, false, List, [], ◌∷◌, ◌++◌, reverse, Option, Some, None, refl}
+use Rattle.std.proofs.Common.{◌≡◌, ℕ, zero, suc, true, List, [], ◌∷◌, ◌++◌, reverse, Option, Some, None, refl}
 use Rattle.input_types.specs.declared.message.Args.TheVariants.{Key as KeyOfDevice}
 use Rattle.input_types.specs.declared.message.Message.{Message}
 use Rattle.input_types.specs.declared.motion.MotionAction.TheVariants.{Down}
-use Rattle.dispatch_calls.specs.declared.call.Call.{Call}
 use Rattle.dispatch_calls.specs.declared.call.Call.TheVariants.{Windows, FocusOn, Receive}
 use Rattle.dispatch_history.specs.Effect.{Effect}
 use Rattle.dispatch_history.specs.Legal.{answered, run}

@@ -23,6 +23,10 @@ use Rattle.live_input.proofs.Vacant.{none_vacant, is_vacant}
 pub opened_at : (es : List Effect) (c : ℕ) → 1 ≤ c → c ≤ opened (past_of es) → is_opened es c ≡ true
 opened_at es c low high = and_from (nat_le 1 c) (nat_le c (opened (past_of es))) (le-leb 1 c low) (le-leb c (opened (past_of es)) high)
 
+-- an open client has a channel
+pub channel_of_open : (seats : List Seat) (k : Client) → is_open seats k ≡ true → is_channel k.channel ≡ true
+channel_of_open seats k is = (and_parts (is_channel k.channel) (is_of k.generation (seat_of seats k.channel).holder) is).0
+
 -- a channel that a client holds was opened
 pub held_opened : (es : List Effect) (seats now : List Seat) (c : ℕ) → AreSeated (past_of es) now → now ≡ seats → 1 ≤ c → c ≤ 64
     → is_held (seat_of seats c) ≡ true → is_opened es c ≡ true

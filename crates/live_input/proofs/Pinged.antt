@@ -1,7 +1,6 @@
 -- What the answer to a ping finishes, worked out by hand.
 use Rattle.std.proofs.Common.{◌≡◌, List, [], ◌∷◌, ◌++◌, reverse, None, refl}
 use Rattle.input_types.specs.declared.motion.MotionAction.TheVariants.{Down, Move}
-use Rattle.window_snapshot.specs.declared.window.Window.{Window}
 use Rattle.dispatch_calls.specs.declared.call.Call.{Call}
 use Rattle.dispatch_calls.specs.declared.call.Call.TheVariants.{Open, Windows, Receive, Finish}
 use Rattle.dispatch_history.specs.Effect.{Effect}

@@ -1,5 +1,5 @@
 -- Only clients that are open are reported.
-use Rattle.std.proofs.Common.{◌≡◌, ℕ, ◌≤◌, ◌==◌, ◌&&◌, ◌||◌, Bool, true, false, not, max, List, [], length, None, Some, refl, sym, ap, ◌∙◌, inl, inr}
+use Rattle.std.proofs.Common.{◌≡◌, ℕ, ◌≤◌, ◌==◌, ◌&&◌, ◌||◌, Bool, true, false, not, max, List, [], length, None, refl, sym, ap, ◌∙◌, inl, inr}
 use Rattle.std.specs.Prelude.{nat_lt, nat_le, slice_get}
 use Rattle.std.proofs.lemmas.Bool.{true≢false, and_parts, cases_Bool, cases_eq, cases_lt, eq-eqb, ltb-true, leb-true}
 use Rattle.input_types.specs.declared.message.Message.{Message}
@@ -16,7 +16,7 @@ use Rattle.dispatcher.specs.DispatchTables.Lawful.{Lawful}
 use Rattle.dispatcher.proofs.DispatchTables.Ables.{named_mask}
 use Rattle.dispatcher.proofs.DispatchTables.Unopened.{unopened_not_live}
 use Rattle.live_input.specs.declared.client.Seat.{Seat}
-use Rattle.live_input.specs.Seats.{IsHeld, is_held, seat_of, with_seat}
+use Rattle.live_input.specs.Seats.{IsHeld, is_held, left_vacant, seat_of, with_seat}
 use Rattle.live_input.specs.Standing.{IsMaskOfHeld, LiveIs}
 use Rattle.live_input.specs.State.{LiveState}
 use Rattle.live_input.proofs.Outgoing.{live_lawful}
@@ -26,22 +26,21 @@ pub none_named : (n : ℕ) (seats : List Seat) → n ≡ 0 → IsMaskOfHeld n se
 none_named n seats e = λ c is. absurd (true≢false (sym is ∙ ap (λ k. mask_has k c) e ∙ mask_has-zero c))
 
 -- a client is opened
-pub named_new : (seats : List Seat) (c generation before mask : ℕ) → length seats ≡ 64 → 1 ≤ c → c ≤ 64 → IsMaskOfHeld mask seats
-    → IsMaskOfHeld mask (with_seat c (record { holder = Some generation; before = before }) seats)
-named_new seats c generation before mask all from to h = λ d is.
-    let seat : Seat = record { holder = Some generation; before = before } in
+pub named_new : (seats : List Seat) (c : ℕ) (seat : Seat) (mask : ℕ) → is_held seat ≡ true → length seats ≡ 64 → 1 ≤ c → c ≤ 64 → IsMaskOfHeld mask seats
+    → IsMaskOfHeld mask (with_seat c seat seats)
+named_new seats c seat mask taken all from to h = λ d is.
     let was = h d is in
     elim (cases_eq d c) [
-      | inl e ↦ (was.0, was.1, ap (λ n. is_held (seat_of (with_seat c seat seats) n)) e ∙ ap is_held (seat_set seats c seat all from to))
+      | inl e ↦ (was.0, was.1, ap (λ n. is_held (seat_of (with_seat c seat seats) n)) e ∙ ap is_held (seat_set seats c seat all from to) ∙ taken)
       | inr ne ↦ (was.0, was.1, ap is_held (seat_stays seats c d seat from was.0 ne) ∙ was.2)
     ]
 
 -- a client is closed, and is not reported any more
 pub named_less : (seats : List Seat) (c before mask less : ℕ) → 1 ≤ c → IsMaskOfHeld mask seats
     → ((d : ℕ) → mask_has less d ≡ (not (d == c) && mask_has mask d))
-    → IsMaskOfHeld less (with_seat c (record { holder = None; before = before }) seats)
+    → IsMaskOfHeld less (with_seat c (left_vacant before) seats)
 named_less seats c before mask less from h without = λ d is.
-    let seat : Seat = record { holder = None; before = before } in
+    let seat : Seat = left_vacant before in
     let both = and_parts (not (d == c)) (mask_has mask d) (sym (without d) ∙ is) in
     let was = h d both.1 in
     elim (cases_eq d c) [

@@ -1,5 +1,5 @@
 -- What is left of room for args and pumps.
-use Rattle.std.proofs.Common.{◌≡◌, ◌≢◌, ℕ, suc, ◌+◌, ◌-◌, ◌≤◌, ◌<◌, ◌^◌, max, arith, Bool, true, false, cond, ◌||◌, List, [], ◌∷◌, ◌++◌, length, reverse, drop, Option, Some, None, Result, Ok, Err, refl, sym, ap, ◌∙◌, subst}
+use Rattle.std.proofs.Common.{◌≡◌, ℕ, suc, ◌+◌, ◌-◌, ◌≤◌, max, arith, Bool, true, false, cond, ◌||◌, List, [], ◌∷◌, length, reverse, Option, Some, None, refl, sym, ap, ◌∙◌, subst}
 use Rattle.std.proofs.Math.Nat.{le-max_left}
 use Rattle.std.proofs.lemmas.Bool.{true≢false}
 use Rattle.std.proofs.lemmas.List.{length-drop, length-reverse}
@@ -16,9 +16,7 @@ use Rattle.dispatch_history.specs.Queue.{accepted, dispatches, inbound}
 use Rattle.dispatch_history.specs.Reply.{pump_reply, reply_to}
 use Rattle.dispatcher.specs.Access.{any_waits, is_waiting}
 use Rattle.dispatcher.specs.Dispatching.{Dispatching, StandsFor, with_room}
-use Rattle.live_input.specs.declared.refused.ArgsRefused.{ArgsRefused}
-use Rattle.live_input.specs.declared.refused.ArgsRefused.TheVariants.{NoDevice, Inconsistent, Memory, Waits}
-use Rattle.live_input.specs.Room.{GoesAtOnce, HandsOver, HasRoom, MayCountMore, PumpsOver}
+use Rattle.live_input.specs.Room.{HandsOver, HasRoom, MayCountMore, PumpsOver}
 use Rattle.live_input.specs.Settling.{next_waiting}
 use Rattle.live_input.specs.Standing.{LiveIs}
 use Rattle.live_input.specs.State.{LiveState}

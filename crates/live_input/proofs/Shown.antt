@@ -45,8 +45,8 @@ windows_held seats ws e = each ws (all_open seats ws e)
     each [] all c low named = absurd (true≢false (sym named))
     each (w ∷ ws) all c low named =
         let x = and_parts (may_ask seats w.client) (list_all (λ w. may_ask seats w.client) ws) all in
-        elim (cases_Bool (number_of w.client w.display == c)) [
-          | inl y ↦ own w.client w.display c low x.0 (eqb-true (number_of w.client w.display) c y)
+        elim (cases_Bool (number_of w.client w.info.display == c)) [
+          | inl y ↦ own w.client w.info.display c low x.0 (eqb-true (number_of w.client w.info.display) c y)
           | inr n ↦ each ws x.1 c low (sym (ap (λ b. b || is_named (map window_of ws) c) n) ∙ named)
         ]
 

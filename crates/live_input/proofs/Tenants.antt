@@ -26,7 +26,8 @@ use Rattle.dispatcher.proofs.DispatchTables.Lawfuls.{lawful_last}
 use Rattle.dispatcher.proofs.DispatchTables.Ables.{opened_few}
 use Rattle.dispatcher.proofs.DispatchTables.Unopened.{unopened_law}
 use Rattle.live_input.specs.declared.client.Seat.{Seat}
-use Rattle.live_input.specs.Seats.{IsHeld, is_held, seat_of, with_seat}
+use Rattle.live_input.specs.declared.options.Options.{Options}
+use Rattle.live_input.specs.Seats.{IsHeld, is_held, left_vacant, seat_of, taken_by, with_seat}
 use Rattle.live_input.specs.Standing.{AreSeated, AreTenants, Begins, IsDone, IsOfHeld, IsOfSome}
 use Rattle.live_input.proofs.Silence.{sent_nothing}
 use Rattle.live_input.proofs.Unsent.{unsent_law}
@@ -156,7 +157,7 @@ tenants_more ds call answer es seats l t shown asked untouched new =
 -- the seat of a channel on which everything is done, and whose window is not shown, is vacated
 pub tenants_less : (es : List Effect) (seats : List Seat) (c before : ℕ) → length seats ≡ 64 → 1 ≤ c → c ≤ 64 → AreTenants es seats
     → is_named (snapshot (past_of es)) c ≡ false → ((y : ℕ) → y < 4 → is_at (requested (past_of es) y) c ≡ false) → IsDone es c
-    → AreTenants es (with_seat c (record { holder = None; before = before }) seats)
+    → AreTenants es (with_seat c (left_vacant before) seats)
 tenants_less es seats c before all from to t hidden unasked done =
     record {
       shown = λ d few named. stays d (other d named) (t.shown d few named);
@@ -174,7 +175,7 @@ tenants_less es seats c before all from to t hidden unasked done =
     }
   where
     seat : Seat
-    seat = record { holder = None; before = before }
+    seat = left_vacant before
 
     other : (d : ℕ) → is_named (snapshot (past_of es)) d ≡ true → d ≡ c → ⊥
     other d named e = true≢false (sym named ∙ ap (is_named (snapshot (past_of es))) e ∙ hidden)
@@ -187,10 +188,10 @@ tenants_less es seats c before all from to t hidden unasked done =
     asks (Some d) e h = stays d (λ same. true≢false (sym (eq-eqb c d (sym same)) ∙ e)) h
 
 -- a client is opened on a channel on which none was open
-pub tenants_new : (ds : List ℕ) (es : List Effect) (seats : List Seat) (c generation : ℕ) → Lawful ds es → AllRise (past_of es)
+pub tenants_new : (ds : List ℕ) (es : List Effect) (seats : List Seat) (c generation : ℕ) (options : Options) → Lawful ds es → AllRise (past_of es)
     → AreSeated (past_of es) seats → AreTenants es seats → 1 ≤ c → c ≤ 64 → c ≤ opened (past_of es) → is_held (seat_of seats c) ≡ false
-    → AreTenants es (with_seat c (record { holder = Some generation; before = length (stream es c) }) seats)
-tenants_new ds es seats c generation l r a t from to high none =
+    → AreTenants es (with_seat c (taken_by generation (length (stream es c)) options) seats)
+tenants_new ds es seats c generation options l r a t from to high none =
     record {
       shown = λ d few named. stays d (t.shown d few named);
       asked = λ y low. asks (requested (past_of es) y) (t.asked y low);
@@ -209,7 +210,7 @@ tenants_new ds es seats c generation l r a t from to high none =
     }
   where
     seat : Seat
-    seat = record { holder = Some generation; before = length (stream es c) }
+    seat = taken_by generation (length (stream es c)) options
 
     stays : (d : ℕ) → IsHeld d seats → IsHeld d (with_seat c seat seats)
     stays d h = elim (cases_eq d c) [

@@ -1,5 +1,5 @@
 -- Two clients of one channel, one after the other: what the second one is sent, worked out by hand.
-use Rattle.std.proofs.Common.{◌≡◌, List, [], ◌∷◌, ◌++◌, reverse, Some, refl}
+use Rattle.std.proofs.Common.{◌≡◌, List, [], ◌∷◌, ◌++◌, reverse, refl}
 use Rattle.input_types.specs.declared.motion.MotionAction.TheVariants.{Down, Up}
 use Rattle.window_snapshot.specs.declared.window.Window.{Window}
 use Rattle.dispatch_calls.specs.declared.call.Call.{Call}
@@ -7,7 +7,9 @@ use Rattle.dispatch_calls.specs.declared.call.Call.TheVariants.{Open, Windows, R
 use Rattle.dispatch_history.specs.Effect.{Effect, stream}
 use Rattle.dispatch_history.specs.Legal.{run}
 use Rattle.dispatch_history.proofs.Worked.{at, motion, moved, one_display, says, window}
+use Rattle.live_input.specs.Options.{no_options}
 use Rattle.live_input.specs.Outgoing.{sent_since}
+use Rattle.live_input.specs.Seats.{taken_by}
 use Rattle.live_input.specs.Taking.{TakeAll}
 
 abbrev shown : Window
@@ -22,7 +24,7 @@ closed_under_a_finger =
     ++ moved 4000 Up 0 (at 0 540 1200 ∷ []) ++ moved 5000 Down 0 (at 0 100 200 ∷ [])
 
 the_second_client_gets_its_own_finger_alone :
-    sent_since (record { holder = Some 2; before = 2 }) (stream (run one_display (reverse closed_under_a_finger)) 1)
+    sent_since (taken_by 2 2 no_options) (stream (run one_display (reverse closed_under_a_finger)) 1)
     ≡ says 1 5000 (motion Down 0 (at 0 100 200 ∷ [])) ∷ []
 the_second_client_gets_its_own_finger_alone = refl
 

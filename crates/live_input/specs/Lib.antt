@@ -1,3 +1,4 @@
+pub mod Options
 pub mod Seats
 pub mod Steps
 pub mod State
@@ -7,6 +8,8 @@ pub mod Settling
 pub mod Advancing
 pub mod Answers
 pub mod Outgoing
+pub mod Receiving
+pub mod ReceivingLaws
 pub mod Giving
 pub mod Plugging
 pub mod Room
@@ -16,8 +19,20 @@ pub mod Taking
 pub mod Showing
 pub mod Opening
 pub mod Windows
+pub mod Replacing
+pub mod Wanted
+pub mod Limit
+pub mod Easing
+pub mod LimitedCalls
+pub mod LimitLaws
 pub mod Laws
 pub mod Through
 pub mod Order
+pub mod Slots
+pub mod Strokes
+pub mod Fingers
+pub mod FingerLaws
 pub mod HandingOut
 pub mod OrderLaws
+pub mod WindowAt
+pub mod WindowAtLaws

@@ -1,5 +1,5 @@
 -- Clients that come and go.
-use Rattle.std.specs.Prelude.{ℕ, ◌≡◌, true, ◌==◌, ◌&&◌, not, ◌+◌, ◌≤◌, nat_le, List, length, Some, None, Result, Ok, Err, if◌then◌else◌}
+use Rattle.std.specs.Prelude.{ℕ, ◌≡◌, true, ◌==◌, ◌&&◌, not, ◌+◌, ◌≤◌, nat_le, List, length, Some, Result, Ok, Err, if◌then◌else◌}
 use Rattle.window_snapshot.specs.Mask.{mask_has}
 use Rattle.dispatch_calls.specs.declared.call.Call.TheVariants.{Open}
 use Rattle.dispatch_history.specs.Delivery.{able}
@@ -8,7 +8,9 @@ use Rattle.dispatch_history.specs.Focus.{asked}
 use Rattle.dispatch_history.specs.History.{opened}
 use Rattle.dispatch_history.specs.Legal.{answered}
 use Rattle.live_input.specs.declared.client.Client.{Client}
-use Rattle.live_input.specs.Seats.{with_seat, seat_of, first_vacant}
+use Rattle.live_input.specs.declared.options.Options.{Options}
+use Rattle.live_input.specs.Options.{no_options}
+use Rattle.live_input.specs.Seats.{with_seat, seat_of, first_vacant, left_vacant, taken_by}
 use Rattle.live_input.specs.declared.refused.CloseRefused.{CloseRefused}
 use Rattle.live_input.specs.declared.refused.CloseRefused.TheVariants.{NotOpen, Memory}
 use Rattle.live_input.specs.Answers.{SameClients}
@@ -22,20 +24,25 @@ use Rattle.live_input.specs.Taking.{TakenInPart}
 abbrev pub opening : List ℕ → (limit channel : ℕ) → List Effect → List Effect
 opening displays limit c es = if nat_le c (opened (past_of es)) then es else answered displays (Open limit) es
 
--- The client has the first vacant channel, and a generation that no earlier client had. The other seats stay as they
--- are.
-pub record Opens (client : Client) (old new : LiveState) : Type 0 where
+-- The client has the first vacant channel, a generation that no earlier client had, and these options. The other seats
+-- stay as they are.
+pub record OpensWith (options : Options) (client : Client) (old new : LiveState) : Type 0 where
   pub first : first_vacant old.seats ≡ Some client.channel
   pub generation_is : client.generation ≡ old.opened + 1
   pub opened_is : new.opened ≡ old.opened + 1
   pub before : ℕ
   pub seats_are :
-      new.seats ≡ with_seat client.channel (record { holder = Some client.generation; before = before }) old.seats
+      new.seats ≡ with_seat client.channel (taken_by client.generation before options) old.seats
   pub limit_is : new.limit ≡ old.limit
   pub named_is : new.named ≡ old.named
   pub clock_is : new.clock ≡ old.clock
   pub devices_are : new.devices ≡ old.devices
   pub pending_is : new.pending ≡ old.pending
+  pub fingers_are : new.fingers ≡ old.fingers
+
+-- a client is opened without more being said
+abbrev pub Opens : Client → (old new : LiveState) → Type 0
+Opens client old new = OpensWith no_options client old new
 
 -- a channel was opened, or is the first one that was not
 pub record IsNext (c : ℕ) (es : List Effect) : Type 0 where
@@ -54,11 +61,12 @@ pub record OpensOn (displays : List ℕ) (es : List Effect) (client : Client) (o
 pub record Closes (client : Client) (old new : LiveState) : Type 0 where
   pub seats_are :
       new.seats
-      ≡ with_seat client.channel (record { holder = None; before = (seat_of old.seats client.channel).before }) old.seats
+      ≡ with_seat client.channel (left_vacant (seat_of old.seats client.channel).before) old.seats
   pub opened_is : new.opened ≡ old.opened
   pub limit_is : new.limit ≡ old.limit
   pub devices_are : new.devices ≡ old.devices
   pub pending_is : new.pending ≡ old.pending
+  pub fingers_are : new.fingers ≡ old.fingers
   pub named_are : (c : ℕ) → mask_has new.named c ≡ (not (c == client.channel) && mask_has old.named c)
 
 -- An open client is closed at this moment, which is then the clock: its window is hidden, its requests are withdrawn, and everything left for it is received

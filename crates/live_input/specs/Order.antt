@@ -1,5 +1,5 @@
 -- The order in which the messages of all clients are handed out.
-use Rattle.std.specs.Prelude.{ℕ, ◌<◌, ◌^◌, zero, suc, Bool, true, false, not, ◌&&◌, ◌||◌, ◌==◌, nat_lt, List, length, Option, Some, None, if◌then◌else◌}
+use Rattle.std.specs.Prelude.{ℕ, ◌<◌, ◌^◌, zero, suc, Bool, false, not, ◌&&◌, ◌||◌, ◌==◌, nat_lt, List, length, Option, Some, None, if◌then◌else◌}
 use Rattle.input_types.specs.declared.message.Body.{Body}
 use Rattle.input_types.specs.declared.message.Body.TheVariants.{Motion as MotionBody, Key, Focus}
 use Rattle.input_types.specs.declared.message.Message.{Message}
@@ -8,7 +8,6 @@ use Rattle.input_types.specs.declared.motion.MotionAction.TheVariants.{Down, Up,
 use Rattle.dispatch_calls.specs.declared.call.Call.TheVariants.{Receive}
 use Rattle.dispatch_history.specs.Effect.{Effect, past_of}
 use Rattle.dispatch_history.specs.History.{opened}
-use Rattle.dispatch_history.specs.Legal.{answered}
 use Rattle.dispatch_history.specs.Reply.{reply_to}
 use Rattle.dispatcher.specs.Access.{got}
 use Rattle.dispatcher.specs.Dispatching.{Dispatching, StandsFor}
@@ -66,9 +65,9 @@ abbrev pub same_step : Place → Option First → Bool
 same_step p None = false
 same_step p (Some f) = p.step == f.place.step
 
--- the next message of a channel is the last of its step that is left to hand out
-abbrev pub is_last : List ℕ → List Effect → First → Bool
-is_last displays es f = not (same_step f.place (next_any (answered displays (Receive f.channel) es)))
+-- a message is the last of its step that is left to hand out, where the history after it is this one
+abbrev pub is_last : List Effect → First → Bool
+is_last after f = not (same_step f.place (next_any after))
 
 -- what is kept stands for a history whose steps can be counted in 64 bits
 pub record IsReady (es : List Effect) (d : Dispatching) (s : Steps) : Type 0 where

@@ -1,13 +1,23 @@
 -- Which client is open on which channel.
-use Rattle.std.specs.Prelude.{ℕ, ◌≡◌, ◌≤◌, ◌-◌, ◌+◌, min, ◌^◌, Bool, true, false, ◌==◌, ◌&&◌, not, is_some, List, slice_index_or, slice_set, Option, Some, None, option_map}
+use Rattle.std.specs.Prelude.{ℕ, ◌≡◌, ◌≤◌, ◌-◌, ◌+◌, min, ◌^◌, Bool, true, false, ◌==◌, ◌&&◌, not, is_some, List, slice_index_or, slice_set, Option, Some, None, option_map, if◌then◌else◌}
 use Rattle.std.specs.List.{list_all, position}
 use Rattle.window_snapshot.specs.Mask.{is_channel}
 use Rattle.live_input.specs.declared.client.Client.{Client}
 use Rattle.live_input.specs.declared.client.Seat.{Seat}
+use Rattle.live_input.specs.declared.options.Options.{Options}
+use Rattle.live_input.specs.Options.{no_options}
 
--- a channel on which no client is open
+-- a channel on which no client is open, and which had so many messages before the last one that was
+abbrev pub left_vacant : (before : ℕ) → Seat
+left_vacant before = record { holder = None; before = before; options = no_options }
+
+-- a channel on which no client was ever open
 abbrev pub vacant : Seat
-vacant = record { holder = None; before = 0 }
+vacant = left_vacant 0
+
+-- a channel on which the client of a generation is open, opened with these options after so many messages of the channel
+abbrev pub taken_by : (generation before : ℕ) → Options → Seat
+taken_by generation before options = record { holder = Some generation; before = before; options = options }
 
 -- the seat of a channel; channels have the numbers from 1
 abbrev pub seat_of : List Seat → ℕ → Seat
@@ -54,3 +64,7 @@ client_at seats c = client_of c (seat_of seats c).holder
 -- the number in its channel of a message that has this number for its client: those before the client are not counted for it
 abbrev pub number_of : Seat → ℕ → ℕ
 number_of s seq = min (s.before + seq) (2 ^ 64 - 1)
+
+-- the user data that an open client was opened with
+abbrev pub user_data_of : List Seat → Client → Option ℕ
+user_data_of seats k = if is_open seats k then Some (seat_of seats k.channel).options.user_data else None

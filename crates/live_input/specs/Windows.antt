@@ -13,6 +13,7 @@ use Rattle.live_input.specs.declared.client.Seat.{Seat}
 use Rattle.live_input.specs.declared.refused.WindowsRefused.{WindowsRefused}
 use Rattle.live_input.specs.declared.refused.WindowsRefused.TheVariants.{NotOpen, TooMany, Twice, Memory}
 use Rattle.live_input.specs.declared.windows.ClientWindow.{ClientWindow}
+use Rattle.live_input.specs.declared.windows.WindowInfo.{WindowInfo}
 use Rattle.live_input.specs.Showing.{may_ask}
 use Rattle.live_input.specs.Answers.{Makes}
 use Rattle.live_input.specs.State.{LiveState}
@@ -22,18 +23,22 @@ abbrev pub number_of : Option Client → (display : ℕ) → ℕ
 number_of None y = wall_on y
 number_of (Some k) y = k.channel
 
+-- the window of a channel
+abbrev pub window_by : (channel : ℕ) → WindowInfo → Window
+window_by c i = record {
+  channel = c;
+  display = i.display;
+  frame = i.frame;
+  region = i.region;
+  flags = i.flags;
+  owner = i.owner;
+  opacity = i.opacity;
+  occlusion = i.occlusion;
+}
+
 -- the window by its channel; a window of no client is a wall
 abbrev pub window_of : ClientWindow → Window
-window_of w = record {
-  channel = number_of w.client w.display;
-  display = w.display;
-  frame = w.frame;
-  region = w.region;
-  flags = w.flags;
-  owner = w.owner;
-  opacity = w.opacity;
-  occlusion = w.occlusion;
-}
+window_of w = window_by (number_of w.client w.info.display) w.info
 
 -- the index of the first window whose client is not open
 abbrev pub first_stale : List Seat → List ClientWindow → Option ℕ

@@ -1,10 +1,11 @@
 //! Clients and their seats.
-ghost use Rattle.std.specs.Prelude.{◌≡◌, true, None, Some};
+ghost use Rattle.std.specs.Prelude.{◌≡◌, true};
 ghost use Rattle.dispatcher.specs.Access.{got};
 ghost use Rattle.window_snapshot.specs.Mask.{is_channel};
 ghost use Rattle.live_input.specs.Answers.{for_client, handed};
-ghost use Rattle.live_input.specs.Seats.{is_open, is_of, is_held, seat_of, with_seat, number_of, client_of};
+ghost use Rattle.live_input.specs.Seats.{is_open, is_of, is_held, seat_of, with_seat, number_of, client_of, taken_by, left_vacant};
 
+use crate::options::Options;
 use dispatch_calls::Reply;
 use input_types::Message;
 use window_snapshot::is_channel;
@@ -47,12 +48,13 @@ impl Client {
     }
 }
 
-/// What is kept of a channel: the generation of its open client, if there is one, and how many of its messages came
-/// before that client.
+/// What is kept of a channel: the generation of its open client, if there is one, how many of its messages came before
+/// that client, and what the client was opened with.
 #[derive(Clone, Copy, Debug, PartialEq, Eq)]
 pub(crate) struct Seat {
     pub(crate) holder: Option<u64>,
     pub(crate) before: u64,
+    pub(crate) options: Options,
 }
 
 impl Seat {
@@ -131,25 +133,32 @@ pub(crate) fn client_of(channel: u32, holder: Option<u64>) -> Option<Client>
 }
 
 /// Gives the seat of a channel to a client.
-pub(crate) fn occupy(seats: &mut [Seat; 64], channel: u32, generation: u64, before: u64)
+pub(crate) fn occupy(
+    seats: &mut [Seat; 64],
+    channel: u32,
+    generation: u64,
+    before: u64,
+    options: Options,
+)
     requires { is_channel channel ≡ true }
-    ensures { seats.new ≡ with_seat channel (record { holder = Some generation; before = before }) seats.old }
+    ensures { seats.new ≡ with_seat channel (taken_by generation before options) seats.old }
 {
     seats[channel as usize - 1] = Seat {
         holder: Some(generation),
         before,
+        options,
     };
 }
 
 /// Vacates the seat of a channel.
 pub(crate) fn vacate(seats: &mut [Seat; 64], channel: u32)
     requires { is_channel channel ≡ true }
-    ensures { seats.new ≡ with_seat channel
-        (record { holder = None; before = (seat_of seats.old channel).before }) seats.old }
+    ensures { seats.new ≡ with_seat channel (left_vacant (seat_of seats.old channel).before) seats.old }
 {
     let before = seat_of(seats, channel).before;
     seats[channel as usize - 1] = Seat {
         holder: None,
         before,
+        options: Options::new(),
     };
 }

@@ -9,8 +9,8 @@ ghost use Rattle.focus_resolver.specs.Resolver.{is_at};
 ghost use Rattle.dispatcher.specs.Dispatching.{IsAfter};
 ghost use Rattle.window_snapshot.specs.Mask.{is_channel};
 ghost use Rattle.window_snapshot.specs.Named.{is_named};
-ghost use Rattle.live_input.specs.Seats.{IsHeld, is_open, is_held, is_full, client_at, first_vacant};
-ghost use Rattle.live_input.specs.Opening.{Opens, OpensOn, CloseGoes, IsNext, opening};
+ghost use Rattle.live_input.specs.Seats.{IsHeld, is_open, is_held, is_full, client_at, first_vacant, user_data_of};
+ghost use Rattle.live_input.specs.Opening.{Opens, OpensWith, OpensOn, CloseGoes, IsNext, opening};
 ghost use Rattle.live_input.specs.Answers.{SameRest};
 ghost use Rattle.live_input.specs.Closing.{hidden, forgotten};
 ghost use Rattle.live_input.specs.Settling.{Settles, next_left};
@@ -20,6 +20,7 @@ ghost use Rattle.live_input.specs.Taking.{TakenInPart};
 
 use crate::client::{Client, Seat, client_of, is_open, occupy, seat_of, vacate};
 use crate::live::Live;
+use crate::options::Options;
 use crate::refused::{CloseRefused, OpenRefused};
 use dispatch_calls::Call;
 use dispatcher::Dispatcher;
@@ -46,6 +47,17 @@ impl Live {
         }
     }
 
+    /// The user data that a client was opened with; None if it is not open.
+    pub fn user_data(&self, client: Client) -> Option<u64>
+        ensures { result ≡ user_data_of self.now.seats client }
+    {
+        if is_open(&self.seats, client) {
+            Some(seat_of(&self.seats, client.channel).options.user_data)
+        } else {
+            None
+        }
+    }
+
     /// Opens a client on the first channel that has none.
     ///
     /// A channel is used again; its new client receives nothing that was sent before it was opened. No earlier client
@@ -53,6 +65,17 @@ impl Live {
     pub fn open(&mut self) -> Result<Client, OpenRefused>
         ensures full { (result ≡ Err OpenRefused.Full) ↔ (is_full self.old.seats ≡ true) }
         ensures seat { IfOk result (λ client. Opens client self.old self.new) }
+        ensures after { (ds : List ℕ) (es : List Effect) → LiveIs ds es self.old → IfOk result
+            (λ client. OpensOn ds es client self.old self.new) }
+        ensures err { OnErr result (self.new ≡ self.old) }
+    {
+        self.open_with(&Options::new())
+    }
+
+    /// Opens a client with options on the first channel that has none, as [`open`](Live::open) does.
+    pub fn open_with(&mut self, options: &Options) -> Result<Client, OpenRefused>
+        ensures full { (result ≡ Err OpenRefused.Full) ↔ (is_full self.old.seats ≡ true) }
+        ensures seat { IfOk result (λ client. OpensWith options.now client self.old self.new) }
         ensures after { (ds : List ℕ) (es : List Effect) → LiveIs ds es self.old → IfOk result
             (λ client. OpensOn ds es client self.old self.new) }
         ensures err { OnErr result (self.new ≡ self.old) }
@@ -67,7 +90,7 @@ impl Live {
             Ok(sent) => {
                 let generation = self.opened + 1;
                 self.opened = generation;
-                occupy(&mut self.seats, channel, generation, sent);
+                occupy(&mut self.seats, channel, generation, sent, *options);
                 Ok(Client {
                     channel,
                     generation,

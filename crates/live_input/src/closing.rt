@@ -133,7 +133,7 @@ pub(crate) fn oldest(dispatcher: &Dispatcher, channel: u32) -> Option<u64>
 }
 
 /// The display with this number.
-fn display(number: u8) -> DisplayId
+pub(crate) fn display(number: u8) -> DisplayId
     requires { number ≤ 3 }
     ensures { result ≡ number }
 {

@@ -17,7 +17,7 @@ ghost use Rattle.live_input.specs.Standing.{IsMaskOfHeld, IsOfHeld, LiveIs, is_p
 ghost use Rattle.live_input.specs.State.{latest};
 
 use crate::live::Live;
-use crate::settling::{next_due, next_waiting, sooner, timeout};
+use crate::settling::{next_due, sooner, timeout};
 use dispatch_calls::{Call, Reply};
 use input_types::{Args, Moment};
 use std::alloc::AllocError;
@@ -37,10 +37,10 @@ impl Live {
         ensures rest { SameRest self.old self.new }
     {
         for made in 0..u64::MAX {
-            let Some(call) = next_waiting(&self.dispatcher, now) else {
+            if !self.dispatcher.is_waiting() {
                 return Ok(());
-            };
-            self.make(&call)?;
+            }
+            self.pump(now)?;
         }
         Err(AllocError)
     }

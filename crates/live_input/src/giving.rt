@@ -7,6 +7,7 @@ ghost use Rattle.dispatch_history.specs.Reply.{reply_to};
 ghost use Rattle.input_types.specs.DeviceRule.{device_of};
 ghost use Rattle.dispatcher.specs.Access.{is_waiting};
 ghost use Rattle.dispatcher.specs.Answered.{AnswersReserved};
+ghost use Rattle.dispatcher.specs.Dispatching.{IsAfter};
 ghost use Rattle.dispatcher.specs.Outcomes.{reply_of};
 ghost use Rattle.raw_events.specs.declared.event.RawEvent.{RawEvent as Event};
 ghost use Rattle.device_reader.specs.Cooked.{DevicePlan};
@@ -113,6 +114,9 @@ impl Live {
         ensures named { self.new.named ≡ self.old.named }
         ensures clock { self.new.clock ≡ self.old.clock }
     {
+        if self.is_quiet() {
+            return Ok(());
+        }
         match self.hand_in(now) {
             Ok(fits) => match self.dispatch_waiting(now) {
                 Ok(()) => {
@@ -125,6 +129,18 @@ impl Live {
                 Err(_) => Err(ArgsRefused::Waits),
             },
             Err(_) => Err(ArgsRefused::Waits),
+        }
+    }
+
+    /// Whether nothing must be handed in, and nothing waits to be dispatched.
+    fn is_quiet(&self) -> bool
+        ensures pending { result ≡ true → self.now.pending ≡ [] }
+        ensures waiting { (es : List Effect) → IsAfter es self.now.dispatcher → result ≡ true → is_waiting es ≡ false }
+    {
+        if self.dispatcher.is_waiting() {
+            false
+        } else {
+            self.pending.is_empty()
         }
     }
 

@@ -1,4 +1,6 @@
 //! Proved facts about channels and their clients. Each function has the laws as its clauses, and does nothing.
+ghost use Rattle.live_input.specs.LimitLaws.{BoundLaw, CoverLaw, DrainedLaw, GrowthLaw, HiddenLaw, LeftLaw, QuietLaw};
+ghost use Rattle.live_input.specs.LimitedCalls.{GoneLaw};
 ghost use Rattle.live_input.specs.Laws.{SilenceLaw, UnsentLaw, AloneLaw, OwnLaw, OwnNumbersLaw, NextLaw, VacantLaw, ClosedLaw, KeptLaw, AnrsLaw, LaterLaw, DoneLaw, FedFirstLaw, FedLaw, FedStaysLaw};
 
 /// A channel whose window is not shown is sent nothing more.
@@ -43,4 +45,23 @@ pub fn readers()
     ensures first { FedFirstLaw }
     ensures fed { FedLaw }
     ensures stays { FedStaysLaw }
+{}
+
+/// A client that is not choked has at most as many unreceived messages as it may have, and each call of the dispatcher
+/// adds a bounded number. One that is choked has no window among those that are shown, so no call sends it anything
+/// more; once it is released it has received and finished everything. The walls are where the windows of choked clients
+/// were, and all others stay.
+pub fn choking()
+    ensures bound { BoundLaw }
+    ensures growth { GrowthLaw }
+    ensures drained { DrainedLaw }
+    ensures hidden { HiddenLaw }
+    ensures quiet { QuietLaw }
+    ensures left { LeftLaw }
+    ensures cover { CoverLaw }
+{}
+
+/// Behind a client that is closed and for which no wall stood, the windows are shown as they are asked for.
+pub fn gone()
+    ensures { GoneLaw }
 {}

@@ -20,34 +20,57 @@
 //! service then stands for the history extended by them (specs/Opening, Closing, Settling and Showing). So everything
 //! that the history's definitions say about what windows are sent holds here.
 //!
+//! A [`Limited`] is a `Live` that also bounds what a client leaves unreceived. Before each call that may send something
+//! it chokes the clients that left more than they may, and releases those that have finished everything: it makes the
+//! windows and the focus of the history agree with what the program asked for, where a wall stands for the window of a
+//! choked client (specs/Limit). That is a stated list of calls too (specs/Easing), and then comes the call itself
+//! (specs/LimitedCalls).
+//!
 //! A channel can be used again for two reasons (`laws`): a channel whose window is not shown is sent nothing, and what
 //! it was sent before leaves nothing down and no focus.
 #![tactic(auto)]
 
 mod asking;
+mod choking;
 mod client;
 mod clients;
 mod closing;
 mod driving;
+mod easing;
+mod feeding;
+pub mod fingers;
+pub mod finishes;
 mod giving;
 pub mod laws;
+mod limit;
+mod limited;
 mod live;
 mod messages;
 mod next_any;
+mod options;
+mod passing;
 mod plugging;
 mod refused;
 mod releasing;
+pub mod replacing;
 mod settling;
 mod showing;
+mod slots;
 mod steps;
+mod strokes;
 pub mod through;
+mod touching;
+mod walling;
+pub mod window_at;
 mod windows;
 
 pub use client::Client;
+pub use limit::Limited;
 pub use live::Live;
 pub use next_any::Handed;
+pub use options::Options;
 pub use refused::{
-    AddRefused, ArgsRefused, CloseRefused, FinishRefused, FocusRefused, OpenRefused, PilferRefused,
-    WindowsRefused,
+    AddRefused, ArgsRefused, CloseRefused, FingerRefused, FinishRefused, FocusRefused, OpenRefused,
+    PilferRefused, WindowRefused, WindowsRefused,
 };
-pub use windows::ClientWindow;
+pub use windows::{ClientWindow, WindowInfo};

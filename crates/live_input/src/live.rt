@@ -1,21 +1,26 @@
 //! The service.
 ghost use Rattle.std.specs.Prelude.{◌≡◌, ◌+◌, ◌≤◌, ℕ, true, [], List, replicate, None, IfOk, OnOk, OnErr};
+ghost use Rattle.dispatch_calls.specs.declared.call.Call.TheVariants.{Finish, Pump};
 ghost use Rattle.dispatch_history.specs.Effect.{Effect};
 ghost use Rattle.dispatch_history.specs.Legal.{answered};
 ghost use Rattle.dispatch_history.specs.Reply.{reply_to};
 ghost use Rattle.dispatcher.specs.Answered.{AnswersCalm, AnswersPumped};
+ghost use Rattle.dispatcher.specs.Outcomes.{reply_of};
 ghost use Rattle.dispatcher.specs.Queueing.{args_in, is_input};
 ghost use Rattle.live_input.specs.Answers.{SameRest};
-ghost use Rattle.live_input.specs.Seats.{vacant};
+ghost use Rattle.live_input.specs.Slots.{none_down};
+ghost use Rattle.live_input.specs.Seats.{IsHeld, vacant};
 ghost use Rattle.live_input.specs.Standing.{IsOfHeld, LiveIs, is_plain};
 ghost use Rattle.live_input.specs.State.{latest};
 
 use crate::client::Seat;
+use crate::options::Options;
 use crate::releasing::release_after;
+use crate::slots::Fingers;
 use crate::steps::Steps;
 use device_table::DeviceTable;
 use dispatch_calls::{Call, Reply};
-use dispatcher::Dispatcher;
+use dispatcher::{Dispatcher, Outcome};
 use input_types::{Args, DisplayId, Displays, Limit, Moment};
 use std::alloc::{AllocError, Global};
 use std::marker::Model;
@@ -47,6 +52,8 @@ pub struct Live {
     pub(crate) pending: Vec<Args>,
     /// The steps at which messages were published.
     pub(crate) steps: Steps,
+    /// The fingers that are down on each panel that is driven finger by finger.
+    pub(crate) fingers: [Fingers; 8],
 }
 
 impl Model for Live {
@@ -67,6 +74,7 @@ impl Model for Live {
       devices = l.devices;
       pending = l.pending.items;
       steps = l.steps;
+      fingers = l.fingers;
     } };
 }
 
@@ -82,6 +90,7 @@ impl Live {
         ensures named { IfOk result (λ l. l.named ≡ 0) }
         ensures devices { IfOk result (λ l. l.devices ≡ replicate 8 None) }
         ensures pending { IfOk result (λ l. l.pending ≡ []) }
+        ensures fingers { IfOk result (λ l. l.fingers ≡ replicate 8 (none_down 0)) }
     {
         let dispatcher = Dispatcher::new(alloc, displays)?;
         Ok(Live {
@@ -98,6 +107,7 @@ impl Live {
             devices: DeviceTable::new(),
             pending: Vec::new(alloc),
             steps: Steps::new(),
+            fingers: [Fingers::new(0); 8],
         })
     }
 
@@ -137,6 +147,49 @@ impl Live {
         }
     }
 
+    /// Dispatches the first args that wait; if none wait, repeats a held key. If memory runs out, nothing changes.
+    pub(crate) fn pump(&mut self, now: Moment) -> Result<(), AllocError>
+        ensures after { (ds : List ℕ) (es : List Effect) → LiveIs ds es self.old
+            → OnOk result (LiveIs ds (answered ds (Pump now) es) self.new) }
+        ensures rest { self.new ≡ record self.old { dispatcher = self.new.dispatcher; steps = self.new.steps } }
+        ensures err { OnErr result (self.new ≡ self.old) }
+        ensures pumped { AnswersPumped (Pump now) self.old.dispatcher result }
+        ensures pumps { self.old.dispatcher.queue.pumps ≤ self.new.dispatcher.queue.pumps + 1 }
+        ensures room { OnOk result (self.old.dispatcher.queue.spare ≤ self.new.dispatcher.queue.spare) }
+    {
+        match self.dispatcher.pump(now) {
+            Ok(_) => {
+                self.steps.go_all(&self.dispatcher);
+                Ok(())
+            }
+            Err(error) => Err(error),
+        }
+    }
+
+    /// A client finishes a message. If memory runs out, nothing changes.
+    pub(crate) fn finish_one(
+        &mut self,
+        now: Moment,
+        channel: u32,
+        seq: u64,
+    ) -> Result<Outcome, AllocError>
+        ensures after { (ds : List ℕ) (es : List Effect) → LiveIs ds es self.old → IsHeld channel self.old.seats
+            → OnOk result (LiveIs ds (answered ds (Finish now channel seq) es) self.new) }
+        ensures reply { (ds : List ℕ) (es : List Effect) → LiveIs ds es self.old
+            → IfOk result (λ outcome. reply_of outcome ≡ reply_to es (Finish now channel seq)) }
+        ensures rest { self.new ≡ record self.old { dispatcher = self.new.dispatcher; steps = self.new.steps } }
+        ensures err { OnErr result (self.new ≡ self.old) }
+        ensures calm { AnswersCalm (Finish now channel seq) self.old.dispatcher result }
+    {
+        match self.dispatcher.finish(now, channel, seq) {
+            Ok(outcome) => {
+                self.steps.go_on(&self.dispatcher, channel);
+                Ok(outcome)
+            }
+            Err(error) => Err(error),
+        }
+    }
+
     /// Makes one call of the dispatcher without reading its reply. If memory runs out, nothing changes.
     pub(crate) fn make(&mut self, call: &Call) -> Result<(), AllocError>
         ensures after { (ds : List ℕ) (es : List Effect) → LiveIs ds es self.old → is_plain call.now ≡ true
@@ -165,5 +218,6 @@ fn vacant() -> [Seat; 64]
     [Seat {
         holder: None,
         before: 0,
+        options: Options::new(),
     }; 64]
 }

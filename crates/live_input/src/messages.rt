@@ -8,8 +8,10 @@ ghost use Rattle.dispatch_history.specs.Reply.{reply_to};
 ghost use Rattle.dispatcher.specs.Access.{gone, got};
 ghost use Rattle.dispatcher.specs.Dispatching.{StandsFor};
 ghost use Rattle.dispatcher.specs.Memory.{MayCount};
+ghost use Rattle.dispatcher.specs.Outcomes.{reply_of};
 ghost use Rattle.window_snapshot.specs.Mask.{mask_has, mask_with, is_channel};
 ghost use Rattle.live_input.specs.Answers.{SameClients, Finishes, Pilfers, handed, is_done, is_no_spy};
+ghost use Rattle.live_input.specs.Receiving.{receives};
 ghost use Rattle.live_input.specs.Seats.{is_open, seat_of, number_of};
 ghost use Rattle.live_input.specs.Standing.{LiveIs};
 ghost use Rattle.live_input.specs.State.{latest};
@@ -19,15 +21,16 @@ use crate::client::{Client, is_open, seat_of};
 use crate::live::Live;
 use crate::refused::{FinishRefused, PilferRefused};
 use dispatch_calls::{Call, Reply};
-use dispatcher::Dispatcher;
+use dispatcher::{Dispatcher, Outcome};
 use input_types::{DeviceId, Message, Moment};
 use std::alloc::AllocError;
 use window_snapshot::mask_with;
 
 impl Live {
     /// Receives the next message of a client, which the service releases. None if there is none, or if the client is
-    /// not open. Its number does not count the messages that its channel had before the client. If memory runs out,
-    /// nothing changes; that happens only if the calls can no longer be counted in 64 bits.
+    /// not open. Its number does not count the messages that its channel had before the client. A client that finishes
+    /// by itself finishes the message too, at the clock. If memory runs out, nothing changes; that happens only if the
+    /// calls can no longer be counted in 64 bits.
     pub fn next(&mut self, client: Client) -> Result<Option<Message>, AllocError>
         ensures stale { is_open self.old.seats client ≡ false → (result ≡ Ok None) × (self.new ≡ self.old) }
         ensures message { (ds : List ℕ) (es : List Effect) → LiveIs ds es self.old
@@ -35,7 +38,7 @@ impl Live {
             (λ m. m ≡ handed (seat_of self.old.seats client.channel) (got (reply_to es (Receive client.channel)))) }
         ensures after { (ds : List ℕ) (es : List Effect) → LiveIs ds es self.old
             → is_open self.old.seats client ≡ true → OnOk result
-            (LiveIs ds (answered ds (Receive client.channel) es) self.new) }
+            (LiveIs ds (receives ds es self.old client.channel) self.new) }
         ensures numbers { (ds : List ℕ) (es : List Effect) → LiveIs ds es self.old
             → is_open self.old.seats client ≡ true → IfOk result (λ message. IfSome message
             (λ m. m.seq ≡ taken (seat_of self.old.seats client.channel) es client.channel + 1)) }
@@ -54,7 +57,10 @@ impl Live {
         let channel = client.channel;
         let seat = seat_of(&self.seats, channel);
         match self.apply(&Call::Receive { channel }) {
-            Ok(reply) => Ok(seat.handed(&reply)),
+            Ok(reply) => {
+                self.finish_received(channel, seat.options.finishes, &reply);
+                Ok(seat.handed(&reply))
+            }
             Err(error) => Err(error),
         }
     }
@@ -78,10 +84,10 @@ impl Live {
         let now = now.later(self.clock);
         let channel = client.channel;
         let seq = seat_of(&self.seats, channel).number_of(seq);
-        match self.apply(&Call::Finish { now, channel, seq }) {
-            Ok(reply) => {
+        match self.finish_one(now, channel, seq) {
+            Ok(outcome) => {
                 self.clock = now;
-                if is_done(&reply) {
+                if is_finished(outcome) {
                     Ok(())
                 } else {
                     Err(FinishRefused::UnknownSeq)
@@ -160,6 +166,13 @@ fn with_waiting(dispatcher: &Dispatcher, mask: u64, channel: u32) -> u64
     } else {
         mask
     }
+}
+
+/// Whether a message was finished.
+fn is_finished(outcome: Outcome) -> bool
+    ensures { result ≡ is_done (reply_of outcome) }
+{
+    matches!(outcome, Outcome::Done)
 }
 
 /// Whether a call succeeded.

@@ -1,10 +1,11 @@
 //! Devices that come and go.
-ghost use Rattle.std.specs.Prelude.{◌≡◌, ◌≤◌, ◌-◌, ℕ, true, false, List, [], ◌∷◌, None, Err, OnErr, slice_set};
+ghost use Rattle.std.specs.Prelude.{◌≡◌, ◌≤◌, ◌-◌, ℕ, true, false, List, [], ◌∷◌, None, Err, IfOk, OnErr, slice_set};
 ghost use Rattle.dispatch_history.specs.Effect.{Effect};
 ghost use Rattle.input_types.specs.declared.message.Args.TheVariants.{Reset};
 ghost use Rattle.device_reader.specs.Cooked.{Touches, Keys};
 ghost use Rattle.device_table.specs.Table.{is_there, reader_of};
 ghost use Rattle.live_input.specs.Answers.{SameSeats};
+ghost use Rattle.live_input.specs.Slots.{none_down};
 ghost use Rattle.live_input.specs.Giving.{Gives};
 ghost use Rattle.live_input.specs.Plugging.{Adds, is_slots};
 ghost use Rattle.live_input.specs.Standing.{LiveIs};
@@ -12,6 +13,7 @@ ghost use Rattle.live_input.specs.State.{latest};
 
 use crate::live::Live;
 use crate::refused::{AddRefused, ArgsRefused};
+use crate::slots::{Fingers, set_fingers};
 use device_reader::touch_mapper::Cook;
 use input_types::{Args, DeviceId, DisplayId, Moment};
 use key_layout::Layout;
@@ -30,7 +32,8 @@ impl Live {
         ensures slots { is_slots slots ≡ false → result ≡ Err AddRefused.BadSlots }
         ensures added { is_slots slots ≡ true
             → Adds (λ d. Touches (record { device = d; slots = slots; cook = cook })) display result self.old self.new }
-        ensures rest { self.new ≡ record self.old { devices = self.new.devices } }
+        ensures rest { self.new ≡ record self.old { devices = self.new.devices; fingers = self.new.fingers } }
+        ensures fingers { IfOk result (λ d. self.new.fingers ≡ slice_set self.old.fingers (d - 1) (none_down slots)) }
         ensures others { (d : ℕ) → 1 ≤ d → is_there self.old.devices d ≡ true
             → reader_of self.new.devices d ≡ reader_of self.old.devices d }
         ensures stands { (ds : List ℕ) (es : List Effect) → LiveIs ds es self.old → LiveIs ds es self.new }
@@ -43,6 +46,7 @@ impl Live {
             return Err(AddRefused::TooMany);
         };
         self.devices.add_touch(device, slots, cook);
+        set_fingers(&mut self.fingers, device, Fingers::new(slots));
         Ok(device)
     }
 
@@ -50,7 +54,8 @@ impl Live {
     /// free number of its display, and its keys go where all keys go.
     pub fn add_keys(&mut self, display: DisplayId, layout: Layout) -> Result<DeviceId, AddRefused>
         ensures added { Adds (λ d. Keys (record { device = d; layout = layout })) display result self.old self.new }
-        ensures rest { self.new ≡ record self.old { devices = self.new.devices } }
+        ensures rest { self.new ≡ record self.old { devices = self.new.devices; fingers = self.new.fingers } }
+        ensures fingers { IfOk result (λ d. self.new.fingers ≡ slice_set self.old.fingers (d - 1) (none_down 0)) }
         ensures others { (d : ℕ) → 1 ≤ d → is_there self.old.devices d ≡ true
             → reader_of self.new.devices d ≡ reader_of self.old.devices d }
         ensures stands { (ds : List ℕ) (es : List Effect) → LiveIs ds es self.old → LiveIs ds es self.new }
@@ -60,6 +65,7 @@ impl Live {
             return Err(AddRefused::TooMany);
         };
         self.devices.add_keys(self.alloc, device, layout);
+        set_fingers(&mut self.fingers, device, Fingers::new(0));
         Ok(device)
     }
 

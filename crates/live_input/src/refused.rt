@@ -31,6 +31,17 @@ pub enum WindowsRefused {
     Memory,
 }
 
+/// Why a window is not replaced. Nothing changed.
+#[derive(Clone, Copy, Debug, PartialEq, Eq)]
+pub enum WindowRefused {
+    /// The client is not open, or no longer open.
+    NotOpen,
+    /// The client has no window now.
+    NotShown,
+    /// Out of memory.
+    Memory,
+}
+
 /// Why the focus is not requested. Nothing changed.
 #[derive(Clone, Copy, Debug, PartialEq, Eq)]
 pub enum FocusRefused {
@@ -86,4 +97,18 @@ pub enum ArgsRefused {
     /// Out of memory after it was accepted. It waits in its order, and the next call that has the memory and hands
     /// something in or advances dispatches it.
     Waits,
+}
+
+/// Why what a finger does is not taken.
+#[derive(Clone, Copy, Debug, PartialEq, Eq)]
+pub enum FingerRefused {
+    /// A finger with this touch id is down on the panel. Nothing changed.
+    IsDown,
+    /// No finger with this touch id is down on the panel. Nothing changed.
+    NotDown,
+    /// As many fingers as the panel has slots are down on it. Nothing changed.
+    TooMany,
+    /// What its device gives is not dispatched. If memory ran out and nothing waits, the fingers are as before, and the
+    /// call can be made again.
+    Device(ArgsRefused),
 }

@@ -2,22 +2,11 @@
 ghost use Rattle.std.specs.Prelude.{◌≡◌, ◌≤◌, List, Some, None};
 ghost use Rattle.dispatch_history.specs.Effect.{Effect};
 ghost use Rattle.dispatcher.specs.Dispatching.{IsAfter};
-ghost use Rattle.live_input.specs.Settling.{next_due, next_waiting, left_call, sooner, sooner_call, tick_by, repeat_by, timeout};
+ghost use Rattle.live_input.specs.Settling.{next_due, left_call, sooner, sooner_call, tick_by, repeat_by, timeout};
 
 use dispatch_calls::Call;
 use dispatcher::Dispatcher;
 use input_types::Moment;
-
-/// The pump that dispatches the first waiting args, if any wait.
-pub(crate) fn next_waiting(dispatcher: &Dispatcher, now: Moment) -> Option<Call>
-    ensures { (es : List Effect) → IsAfter es dispatcher.now → result ≡ next_waiting now es }
-{
-    if dispatcher.is_waiting() {
-        Some(Call::Pump { now })
-    } else {
-        None
-    }
-}
 
 /// The next of everything that is due up to now: the first waiting args are dispatched; if none wait, the earlier of
 /// the first timeout and the next repeat.

@@ -1,5 +1,5 @@
 //! Windows, and the focus.
-ghost use Rattle.std.specs.Prelude.{◌≡◌, ℕ, ◌-◌, true, false, List, Option, None, Some, Ok, Err, OnOk, OnErr, slice_set};
+ghost use Rattle.std.specs.Prelude.{◌≡◌, ◌≤◌, ℕ, ◌-◌, true, false, List, Option, None, Some, Ok, Err, OnOk, OnErr, slice_set};
 ghost use Rattle.dispatch_calls.specs.declared.call.Call.TheVariants.{Windows, FocusOn};
 ghost use Rattle.dispatch_history.specs.Effect.{Effect};
 ghost use Rattle.dispatch_history.specs.Legal.{answered};
@@ -26,6 +26,8 @@ impl Live {
             → WindowsGo ds (latest now self.old) windows.items es result self.old self.new }
         ensures clients { SameClients self.old self.new }
         ensures named { self.new.named ≡ self.old.named }
+        ensures clock { (self.old.clock ≤ self.new.clock) × (self.new.clock ≤ latest now self.old) }
+        ensures err { OnErr result (self.new ≡ self.old) }
     {
         if let Some(place) = first_stale(&self.seats, &windows) {
             return Err(WindowsRefused::NotOpen { place });
@@ -104,6 +106,8 @@ impl Live {
             → (result ≡ Err FocusRefused.NotOpen) × (self.new ≡ self.old) }
         ensures clients { SameClients self.old self.new }
         ensures named { self.new.named ≡ self.old.named }
+        ensures clock { (self.old.clock ≤ self.new.clock) × (self.new.clock ≤ latest now self.old) }
+        ensures err { OnErr result (self.new ≡ self.old) }
     {
         if !may_ask(&self.seats, client) {
             return Err(FocusRefused::NotOpen);
@@ -130,7 +134,7 @@ pub(crate) fn may_ask(seats: &[Seat; 64], client: Option<Client>) -> bool
 }
 
 /// The channel of a client, if it is one.
-fn channel_of(client: Option<Client>) -> Option<u32>
+pub(crate) fn channel_of(client: Option<Client>) -> Option<u32>
     ensures { result ≡ channel_of client }
 {
     match client {

@@ -4,6 +4,7 @@
 //! share; so the service keeps the number of the step beside them, for the 64 messages of a channel that can wait.
 ghost use Rattle.std.specs.Prelude.{◌≡◌, ◌+◌, ◌-◌, ◌^◌, ◌<◌, ◌%◌, ℕ, max, true, List, replicate, slice_set};
 ghost use Rattle.dispatch_calls.specs.declared.call.Call.{Call as CallView};
+ghost use Rattle.dispatch_calls.specs.declared.call.Call.TheVariants.{Finish};
 ghost use Rattle.dispatch_history.specs.Effect.{Effect};
 ghost use Rattle.dispatch_history.specs.Legal.{answered};
 ghost use Rattle.dispatcher.specs.Dispatching.{IsAfter};
@@ -90,12 +91,19 @@ impl Steps {
     {
         match call {
             Call::Receive { .. } => self.pass(),
-            Call::Finish { channel, .. } => {
-                self.pass();
-                self.note_some(dispatcher, *channel);
-            }
+            Call::Finish { channel, .. } => self.go_on(dispatcher, *channel),
             _ => self.go_all(dispatcher),
         }
+    }
+
+    /// Records the finish of a message, by which the dispatcher may have published something in its channel.
+    pub(crate) fn go_on(&mut self, dispatcher: &Dispatcher, channel: u32)
+        ensures { (ds : List ℕ) (now seq : ℕ) (es : List Effect) → dispatcher.now.displays ≡ ds
+            → IsAfter (answered ds (Finish now channel seq) es) dispatcher.now → StepsAre es self.old
+            → StepsAre (answered ds (Finish now channel seq) es) self.new }
+    {
+        self.pass();
+        self.note_some(dispatcher, channel);
     }
 
     /// Records a call by which the dispatcher may have published something in any channel.

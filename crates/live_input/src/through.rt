@@ -72,7 +72,7 @@ impl Live {
 
     /// Makes one call without reading its reply. If it needs no memory, it fails only if it can no longer be counted;
     /// nothing changes then.
-    fn make_calm(&mut self, call: &Call) -> Result<(), AllocError>
+    pub(crate) fn make_calm(&mut self, call: &Call) -> Result<(), AllocError>
         ensures after { (ds : List ℕ) (es : List Effect) → LiveIs ds es self.old → is_plain call.now ≡ true
             → IsOfHeld self.old.seats call.now → OnOk result (LiveIs ds (answered ds call.now es) self.new) }
         ensures rest { self.new ≡ record self.old { dispatcher = self.new.dispatcher; steps = self.new.steps } }

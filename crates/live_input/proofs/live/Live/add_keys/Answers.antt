@@ -4,11 +4,13 @@ use Rattle.device_table.specs.Table.{IsFirstFree, is_free, reader_of}
 use Rattle.live_input.specs.Standing.{LiveIs}
 use Rattle.live_input.specs.State.{LiveState}
 use Rattle.live_input.proofs.Handing.{beside_goes}
+use Rattle.live_input.proofs.Panels.{fingers_go}
 use Rattle.live_input.proofs.Plugged.{others_stay}
 use Rattle.live_input.proofs.live.Live.add_keys.Goals as goal
 
 pub returns-clause-stands : goal.returns-clause-stands
-returns-clause-stands c = λ ds es h. beside_goes ds es _ (subst (LiveIs ds es) (sym c.self.view_is) h) c.add_keys.new.self c.self.inside.pending.items c.self.inside.clock
+returns-clause-stands c = λ ds es h.
+    fingers_go ds es _ (beside_goes ds es _ (subst (LiveIs ds es) (sym c.self.view_is) h) c.add_keys.new.self c.self.inside.pending.items c.self.inside.clock) c.self.inside.clock c.set_fingers.new.all
 
 pub returns-clause-added : goal.returns-clause-added
 returns-clause-added c = (

@@ -6,7 +6,7 @@ use Rattle.focus_resolver.specs.Resolver.{is_at}
 use Rattle.dispatch_history.specs.Effect.{past_of}
 use Rattle.dispatch_history.specs.Focus.{asked}
 use Rattle.live_input.specs.Answers.{SameRest}
-use Rattle.live_input.specs.Seats.{IsHeld, is_held, seat_of, with_seat}
+use Rattle.live_input.specs.Seats.{IsHeld, is_held, left_vacant, seat_of, with_seat}
 use Rattle.live_input.specs.Standing.{LiveIs}
 use Rattle.live_input.specs.State.{LiveState}
 use Rattle.live_input.specs.Taking.{TakenInPart}
@@ -41,11 +41,12 @@ returns-in-Ok-clause-after c = λ ds es h is.
     (left_none ds _ n k (live_lawful ds _ _ there) settled.done) in
     closed_at ds es c.args.client c.args.self.now _ n _ c.raise-now.ensures.latest
     (record {
-      seats_are = c.vacate.ensures ∙ ap (λ ss. with_seat k (record { holder = None; before = (seat_of ss k).before }) ss) same;
+      seats_are = c.vacate.ensures ∙ ap (λ ss. with_seat k (left_vacant (seat_of ss k).before) ss) same;
       opened_is = ap (λ (s : LiveState). s.opened) c.self-2.view_is ∙ c.empty.ensures.rest.opened_is ∙ ap (λ (s : LiveState). s.opened) rest;
       limit_is = ap (λ (s : LiveState). s.limit) c.self-2.view_is ∙ c.empty.ensures.rest.limit_is ∙ ap (λ (s : LiveState). s.limit) rest;
       devices_are = ap (λ (s : LiveState). s.devices) c.self-2.view_is ∙ c.empty.ensures.rest.devices_are ∙ ap (λ (s : LiveState). s.devices) rest;
       pending_is = ap (λ (s : LiveState). s.pending) c.self-2.view_is ∙ c.empty.ensures.rest.pending_is ∙ ap (λ (s : LiveState). s.pending) rest;
+      fingers_are = ap (λ (s : LiveState). s.fingers) c.self-2.view_is ∙ c.empty.ensures.rest.fingers_are ∙ ap (λ (s : LiveState). s.fingers) rest;
       named_are = λ d.
           c.mask_without-self-inside.ensures.channels d
           ∙ ap (λ m. not (d == k) && mask_has m d)
@@ -73,6 +74,7 @@ returns-in-Err-clause-after c = λ ds es h is.
         limit_is = clients.limit_is;
         devices_are = clients.devices_are;
         pending_is = clients.pending_is;
+        fingers_are = clients.fingers_are;
       },
       c.empty.ensures.rest.clock_is ∙ ap (λ (s : LiveState). s.clock) rest,
       subst (λ n. TakenInPart ds n k (asked (past_of es)) es c.empty.new.self) c.raise-now.ensures.latest (c.in-Err.ensures.part ds es raised held),

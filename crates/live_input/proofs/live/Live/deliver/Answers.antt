@@ -2,8 +2,18 @@
 use Rattle.std.proofs.lemmas.Bool.{true≢false}
 use Rattle.std.proofs.Common.{arith, length, sym, ap, ◌∙◌, inl, inr}
 use Rattle.live_input.specs.Giving.{notified}
+use Rattle.dispatcher.proofs.Laws.Standing.{after_of}
+use Rattle.live_input.proofs.Idle.{delivers_none, room_none}
 use Rattle.live_input.proofs.Roomy.{counted, idle, room_left}
 use Rattle.live_input.proofs.live.Live.deliver.Goals as goal
+
+pub returns-then-is_quiet-clause-after : goal.returns-then-is_quiet-clause-after
+returns-then-is_quiet-clause-after c = λ ds es h.
+    delivers_none ds c.args.now es c.args.self.now h (c.is_quiet.ensures.pending c.if-is_quiet.true)
+    (c.is_quiet.ensures.waiting es (after_of es _ h.stands) c.if-is_quiet.true)
+
+pub returns-then-is_quiet-clause-reserved : goal.returns-then-is_quiet-clause-reserved
+returns-then-is_quiet-clause-reserved c = λ n ds es h none room few. room_none n c.args.self.now (c.is_quiet.ensures.pending c.if-is_quiet.true) room
 
 pub returns-then-fits-clause-after : goal.returns-then-fits-clause-after
 returns-then-fits-clause-after c = λ ds es h. (

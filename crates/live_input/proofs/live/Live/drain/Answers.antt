@@ -28,6 +28,7 @@ loop-preserved c =
             limit_is = c.make.ensures.rest.limit_is ∙ c.loop.invariant.rest.limit_is;
             devices_are = c.make.ensures.rest.devices_are ∙ c.loop.invariant.rest.devices_are;
             pending_is = c.make.ensures.rest.pending_is ∙ c.loop.invariant.rest.pending_is;
+            fingers_are = c.make.ensures.rest.fingers_are ∙ c.loop.invariant.rest.fingers_are;
             named_is = c.make.ensures.rest.named_is ∙ c.loop.invariant.rest.named_is;
             clock_is = c.make.ensures.rest.clock_is ∙ c.loop.invariant.rest.clock_is;
           };

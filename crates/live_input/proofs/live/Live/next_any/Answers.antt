@@ -1,7 +1,6 @@
 -- The client of the first channel receives its next message.
 use Rattle.std.proofs.Common.{sym, ap, ◌∙◌, subst}
-use Rattle.dispatch_calls.specs.declared.call.Call.TheVariants.{Receive}
-use Rattle.dispatch_history.specs.Legal.{answered}
+use Rattle.live_input.specs.Receiving.{receives}
 use Rattle.live_input.specs.Standing.{LiveIs}
 use Rattle.live_input.specs.State.{LiveState}
 use Rattle.live_input.proofs.Handouts.{client_found, hands_out, none_found, ready_now, ready_then}
@@ -22,5 +21,5 @@ returns-in-Ok-clause-hands c = λ ds es h.
     let after = c.in-Ok.ensures.after ds es h found.open_is in
     hands_out ds es c.args.self.now c.next.new.self f c.in-Some-client_at.client c.in-Ok.message c.with_client.result h first found
     (c.in-Ok.ensures.message ds es h found.open_is) after
-    (c.with_client.ensures (answered ds (Receive c.in-Some-client_at.client.channel) es)
+    (c.with_client.ensures (receives ds es c.args.self.now c.in-Some-client_at.client.channel)
     (ready_then ds es c.args.self.now c.next.new.self c.in-Some-client_at.client.channel h (λ e. c.if-self.false (ap (λ (s : LiveState). s.steps.made) c.self.view_is ∙ e)) after))

@@ -1,7 +1,7 @@
 -- The first vacant channel gets a client.
 use Rattle.std.proofs.Common.{◌≡◌, ◌+◌, Some, refl, sym, ap, ◌∙◌, subst}
 use Rattle.live_input.specs.Opening.{opening}
-use Rattle.live_input.specs.Seats.{first_vacant, is_held, seat_of, with_seat}
+use Rattle.live_input.specs.Seats.{first_vacant, is_held, seat_of, taken_by, with_seat}
 use Rattle.live_input.specs.Standing.{AreTenants, LiveIs}
 use Rattle.live_input.specs.State.{LiveState}
 use Rattle.live_input.proofs.Opened.{full_by_none, not_full}
@@ -11,7 +11,7 @@ use Rattle.live_input.proofs.Outgoing.{live_lawful}
 use Rattle.live_input.proofs.Able.{done_able}
 use Rattle.live_input.proofs.Reported.{named_new}
 use Rattle.live_input.proofs.Vacant.{seat_set, vacant_known, vacant_next}
-use Rattle.live_input.proofs.live.Live.open.Goals as goal
+use Rattle.live_input.proofs.live.Live.open_with.Goals as goal
 
 pub returns-in_default-clause-full : goal.returns-in_default-clause-full
 returns-in_default-clause-full c =
@@ -45,14 +45,14 @@ returns-in-Ok-clause-after c = λ ds es h.
     let none = ap (λ ss. is_held (seat_of ss k)) (ap (λ (s : LiveState). s.seats) c.self-2.view_is ∙ ap (λ (s : LiveState). s.seats) c.open_channel.ensures.rest)
     ∙ (vacant_known c.args.self.now.seats k h.seats_are.all at).2 in
     let tenants =
-    subst (λ n. AreTenants fs (with_seat k (record { holder = Some (c.self-2.inside.opened + 1); before = n }) c.self-2.inside.seats))
+    subst (λ n. AreTenants fs (with_seat k (taken_by (c.self-2.inside.opened + 1) n c.args.options.now) c.self-2.inside.seats))
     (sym (c.in-Ok.ensures.sent ds es h next))
-    (tenants_new ds fs c.self-2.inside.seats k (c.self-2.inside.opened + 1) (live_lawful ds fs _ there) there.stands.rise there.seats_are there.tenants_are
+    (tenants_new ds fs c.self-2.inside.seats k (c.self-2.inside.opened + 1) c.args.options.now (live_lawful ds fs _ there) there.stands.rise there.seats_are there.tenants_are
     next.from next.to (c.in-Ok.ensures.opened ds es h next) none) in
     record {
       is =
           seat_goes ds fs _ there k _ next.from next.to (c.in-Ok.ensures.opened ds es h next) tenants (c.self-2.inside.opened + 1) c.occupy.new.seats
-          c.occupy.ensures c.self-2.inside.named (named_new c.self-2.inside.seats k _ _ c.self-2.inside.named all next.from next.to there.named_are);
+          c.occupy.ensures c.self-2.inside.named (named_new c.self-2.inside.seats k _ c.self-2.inside.named refl all next.from next.to there.named_are);
       before_is =
           ap (λ s. s.before)
           (ap (λ ss. seat_of ss k) c.occupy.ensures ∙ seat_set c.self-2.inside.seats k _ there.seats_are.all next.from next.to)

@@ -1,0 +1,182 @@
+//! A service with a limit of unreceived messages: how it begins, what it is asked, and time that passes.
+ghost use Rattle.std.specs.Prelude.{◌≡◌, ◌==◌, ◌&&◌, ◌⊎◌, [], ℕ, true, false, None, Some, Err, List, replicate, IfOk, IsOk, OnOk, OnErr};
+ghost use Rattle.dispatch_history.specs.Effect.{Effect};
+ghost use Rattle.dispatcher.specs.Memory.{MayCount};
+ghost use Rattle.live_input.specs.Advancing.{Advances, Advanced};
+ghost use Rattle.live_input.specs.Answers.{SameSeats};
+ghost use Rattle.live_input.specs.Easing.{EasedFirst, GoesEased, IsCalm};
+ghost use Rattle.live_input.specs.Giving.{HandedInPart, notified};
+ghost use Rattle.live_input.specs.Limit.{first_wanted};
+ghost use Rattle.live_input.specs.LimitedCalls.{ClosesEased, is_right_without, released_on};
+ghost use Rattle.live_input.specs.Seats.{is_open, vacant};
+ghost use Rattle.live_input.specs.Settling.{due_of, next_due};
+ghost use Rattle.live_input.specs.Slots.{none_down};
+ghost use Rattle.live_input.specs.Standing.{IsMaskOfHeld, LiveIs};
+ghost use Rattle.live_input.specs.State.{latest};
+ghost use Rattle.window_snapshot.specs.Mask.{mask_has};
+
+use crate::client::Client;
+use crate::limit::{Limited, Wanted, has_window};
+use crate::live::Live;
+use crate::refused::CloseRefused;
+use input_types::{Displays, Limit, Moment};
+use std::alloc::{AllocError, Global};
+use window_snapshot::{mask_has, mask_without};
+
+impl Limited {
+    /// A service without clients, whose devices are on these displays. A client that leaves a message unfinished for
+    /// the limit is reported unresponsive; one that leaves more than 10,000 messages unreceived is choked.
+    pub fn new(alloc: Global, limit: Limit, displays: &Displays) -> Result<Limited, AllocError>
+        ensures start { IfOk result (λ s. LiveIs displays.now [] s.live) }
+        ensures limit { IfOk result (λ s. s.live.limit ≡ limit) }
+        ensures clock { IfOk result (λ s. s.live.clock ≡ 0) }
+        ensures seats { IfOk result (λ s. s.live.seats ≡ replicate 64 vacant) }
+        ensures opened { IfOk result (λ s. s.live.opened ≡ 0) }
+        ensures named { IfOk result (λ s. s.live.named ≡ 0) }
+        ensures devices { IfOk result (λ s. s.live.devices ≡ replicate 8 None) }
+        ensures pending { IfOk result (λ s. s.live.pending ≡ []) }
+        ensures fingers { IfOk result (λ s. s.live.fingers ≡ replicate 8 (none_down 0)) }
+        ensures wanted { IfOk result (λ s. s.wanted ≡ first_wanted 10000) }
+    {
+        let live = Live::new(alloc, limit, displays)?;
+        Ok(Limited {
+            live,
+            wanted: Wanted::new(alloc, 10_000),
+        })
+    }
+
+    /// Sets how many messages a client may leave unreceived. The next call that may send something holds to it.
+    pub fn set_most(&mut self, most: u64)
+        ensures { self.new ≡ record self.old { wanted = record self.old.wanted { most = most } } }
+    {
+        self.wanted.set_most(most);
+    }
+
+    /// How many messages a client may leave unreceived.
+    pub fn most(&self) -> u64
+        ensures { result ≡ self.now.wanted.most }
+    {
+        self.wanted.most()
+    }
+
+    /// Whether a client is open and choked.
+    pub fn is_choked(&self, client: Client) -> bool
+        ensures { result ≡ (is_open self.now.live.seats client && mask_has self.now.wanted.choked client.channel) }
+    {
+        self.live.is_open(client) && mask_has(self.wanted.choked(), client.channel)
+    }
+
+    /// As [`Live::close`]. Nothing is asked for the client any more, even if memory runs out.
+    pub fn close(&mut self, now: Moment, client: Client) -> Result<(), CloseRefused>
+        ensures stale { is_open self.old.live.seats client ≡ false
+            → (result ≡ Err CloseRefused.NotOpen) × (self.new ≡ self.old) }
+        ensures after { (ds : List ℕ) (es : List Effect) → LiveIs ds es self.old.live
+            → is_open self.old.live.seats client ≡ true
+            → ClosesEased ds (latest now self.old.live) client es result self.old self.new }
+        ensures named { OnErr result (self.new.live.named ≡ self.old.live.named) }
+    {
+        if !self.live.is_open(client) {
+            return Err(CloseRefused::NotOpen);
+        }
+        let shown = self.wanted.is_right_without(client.channel);
+        self.wanted.leave(client.channel);
+        match self.live.close(now, client) {
+            Ok(()) => {
+                self.wanted.release(client.channel, shown);
+                Ok(())
+            }
+            Err(error) => Err(error),
+        }
+    }
+
+    /// The first time at which something is due, as [`Live::due`] has it. While a client is to be choked or released,
+    /// or one that was choked is not yet in the mask of an `advance`, it is the clock.
+    pub fn due(&self) -> Option<u64>
+        ensures calm { (ds : List ℕ) (es : List Effect) → LiveIs ds es self.now.live → IsCalm es self.now
+            → self.now.live.named ≡ 0 → result ≡ due_of es self.now.live }
+        ensures uneasy { (ds : List ℕ) (es : List Effect) → LiveIs ds es self.now.live → (IsCalm es self.now → ⊥)
+            → result ≡ Some self.now.live.clock }
+        ensures told { (self.now.live.named ≡ 0 → ⊥) → result ≡ Some self.now.live.clock }
+    {
+        if self.live.is_told() {
+            self.due_eased()
+        } else {
+            Some(self.live.clock().get())
+        }
+    }
+
+    /// The first time at which something is due, where all reports were returned.
+    fn due_eased(&self) -> Option<u64>
+        ensures calm { (ds : List ℕ) (es : List Effect) → LiveIs ds es self.now.live → IsCalm es self.now
+            → result ≡ due_of es self.now.live }
+        ensures uneasy { (ds : List ℕ) (es : List Effect) → LiveIs ds es self.now.live → (IsCalm es self.now → ⊥)
+            → result ≡ Some self.now.live.clock }
+    {
+        if self.is_calm() {
+            self.live.due()
+        } else {
+            Some(self.live.clock().get())
+        }
+    }
+
+    /// As [`Live::advance`], after choking and releasing clients. The mask has those that were choked too.
+    pub fn advance(&mut self, now: Moment) -> Result<u64, AllocError>
+        ensures ok { (ds : List ℕ) (es : List Effect) → LiveIs ds es self.old.live
+            → IfOk result (λ mask. GoesEased ds (latest now self.old.live) es self.old (λ fs eased.
+            Advanced ds (latest now self.old.live) (notified ds (latest now self.old.live) fs eased.live.pending)
+            mask eased.live self.new.live × (self.new.wanted ≡ eased.wanted))) }
+        ensures err { (ds : List ℕ) (es : List Effect) → LiveIs ds es self.old.live
+            → OnErr result (EasedFirst ds (latest now self.old.live) es self.old self.new (Unit {0}) (λ fs eased.
+            (HandedInPart ds (latest now self.old.live) fs eased.live.pending self.new.live
+            ⊎ Advances ds (latest now self.old.live) (notified ds (latest now self.old.live) fs eased.live.pending)
+            eased.live self.new.live) × (self.new.wanted ≡ eased.wanted))) }
+        ensures reported { (ds : List ℕ) (es : List Effect) → LiveIs ds es self.old.live
+            → IfOk result (λ mask. IsMaskOfHeld mask self.old.live.seats) }
+        ensures none { OnOk result (self.new.live.pending ≡ []) }
+        ensures still { (ds : List ℕ) (es : List Effect) → LiveIs ds es self.old.live → IsCalm es self.old
+            → MayCount es → self.old.live.pending ≡ [] → next_due (latest now self.old.live) es ≡ None
+            → IsOk result }
+        ensures clock { self.new.live.clock ≡ latest now self.old.live }
+        ensures devices { self.new.live.devices ≡ self.old.live.devices }
+        ensures seats { SameSeats self.old.live self.new.live }
+    {
+        match self.ease(now) {
+            Ok(()) => self.live.advance(now),
+            Err(error) => Err(error),
+        }
+    }
+}
+
+impl Live {
+    /// Whether all reports were returned.
+    fn is_told(&self) -> bool
+        ensures { result ≡ (self.now.named == 0) }
+    {
+        self.named == 0
+    }
+}
+
+impl Wanted {
+    /// Sets how many messages a client may leave unreceived.
+    fn set_most(&mut self, most: u64)
+        ensures { self.new ≡ record self.old { most = most } }
+    {
+        self.most = most;
+    }
+
+    /// Whether the windows that are shown are these once that of the client of a channel is no longer shown: a wall in
+    /// its place would stay.
+    fn is_right_without(&self, channel: u32) -> bool
+        ensures { result ≡ is_right_without channel self.now }
+    {
+        self.is_shown && !(mask_has(self.choked, channel) && has_window(&self.windows, channel))
+    }
+
+    /// The client of a channel is gone, so it is no longer choked.
+    fn release(&mut self, channel: u32, shown: bool)
+        ensures { self.new ≡ released_on channel shown self.old }
+    {
+        self.choked = mask_without(self.choked, channel);
+        self.is_shown = shown;
+    }
+}
