@@ -7,7 +7,7 @@ use Rattle.std.specs.Coded.{coded_option}
 use Rattle.std.specs.Box.Ownership.{box_owns}
 use Rattle.std.specs.Global.{Global}
 use Rattle.std_heap.specs.contracts.GlobalAllocator.TheImpl.{ghosts}
-use Rattle.live_input.specs.contracts.live.Live.{the_row}
+use Rattle.live_input.specs.contracts.limit.Limited.{the_row}
 
 -- a service and the right to free its block, or nothing
 abbrev pub live_owns : Global → Ptr → Option the_row.Denot → Fml

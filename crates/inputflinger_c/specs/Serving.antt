@@ -2,33 +2,35 @@
 use Rattle.std.specs.Prelude.{◌≡◌, ℕ, List, [], replicate, Option, Some, None, is_some, if◌then◌else◌}
 use Rattle.live_input.specs.Seats.{vacant}
 use Rattle.live_input.specs.Standing.{LiveIs}
-use Rattle.live_input.specs.State.{LiveState}
+use Rattle.live_input.specs.declared.limit.Limited.{Limited}
+use Rattle.live_input.specs.Limit.{first_wanted}
 use Rattle.plain_calls.specs.Status.{is_ok, is_free, is_taken, no_memory, out_of_range}
 
 -- A free handle stays free, the status says so, and this is unchanged; a service changes as the call says.
-abbrev pub OnService : Option LiveState → ℕ → Option LiveState → (unchanged : Type 0) → (LiveState → LiveState → Type 0) → Type 0
+abbrev pub OnService : Option Limited → ℕ → Option Limited → (unchanged : Type 0) → (Limited → Limited → Type 0) → Type 0
 OnService None status new unchanged Goes = (status ≡ is_free) × ((new ≡ None) × unchanged)
 OnService (Some old) status None unchanged Goes = ⊥
 OnService (Some old) status (Some new) unchanged Goes = Goes old new
 
 -- a handle is free after `free`, and the status says whether it was free before
-abbrev pub LiveFrees : Option LiveState → ℕ → Option LiveState → Type 0
+abbrev pub LiveFrees : Option Limited → ℕ → Option Limited → Type 0
 LiveFrees old status new = (status ≡ (if is_some old then is_ok else is_free)) × (new ≡ None)
 
 -- A service at its start: it stands for no call, on these displays, with no client and no device.
-pub record Begins (limit : ℕ) (displays : List ℕ) (s : LiveState) : Type 0 where
-  pub start : LiveIs displays [] s
-  pub limit_is : s.limit ≡ limit
-  pub clock : s.clock ≡ 0
-  pub seats : s.seats ≡ replicate 64 vacant
-  pub opened : s.opened ≡ 0
-  pub named : s.named ≡ 0
-  pub devices : s.devices ≡ replicate 8 None
-  pub pending : s.pending ≡ []
+pub record Begins (limit : ℕ) (displays : List ℕ) (s : Limited) : Type 0 where
+  pub start : LiveIs displays [] s.live
+  pub limit_is : s.live.limit ≡ limit
+  pub clock : s.live.clock ≡ 0
+  pub seats : s.live.seats ≡ replicate 64 vacant
+  pub opened : s.live.opened ≡ 0
+  pub named : s.live.named ≡ 0
+  pub devices : s.live.devices ≡ replicate 8 None
+  pub pending : s.live.pending ≡ []
+  pub wanted : s.wanted ≡ first_wanted 10000
 
 -- The result of `new`: a handle that is not free keeps its service. Otherwise numbers out of range are refused, or
 -- memory ran out, or the handle has a service at its start.
-abbrev pub LiveOpens : Option LiveState → (limit : Option ℕ) → (displays : Option (List ℕ)) → ℕ → Option LiveState → Type 0
+abbrev pub LiveOpens : Option Limited → (limit : Option ℕ) → (displays : Option (List ℕ)) → ℕ → Option Limited → Type 0
 LiveOpens (Some old) limit displays status new = (status ≡ is_taken) × (new ≡ Some old)
 LiveOpens None None displays status new = (status ≡ out_of_range) × (new ≡ None)
 LiveOpens None (Some l) None status new = (status ≡ out_of_range) × (new ≡ None)

@@ -23,12 +23,12 @@ pub extern "C" fn inputflinger_proved_live_focused(
     ensures { OnService live.old.cell.state result live.new.cell.state (client.new ≡ client.old)
         (λ old new. (new ≡ old) × Reads (display_of display) result (client.new ≡ client.old)
         (λ y. Replies answer_status result
-        (λ r. HasFocus old y r × (client.new ≡ written plain_client r client.old)))) }
+        (λ r. HasFocus old.live y r × (client.new ≡ written plain_client r client.old)))) }
 {
     let Some(mut service) = live.take(alloc) else {
         return FREE;
     };
-    let status = asking::focused(&service, display, client);
+    let status = asking::focused(service.live(), display, client);
     live.put(service);
     status
 }
@@ -42,12 +42,12 @@ pub extern "C" fn inputflinger_proved_live_key_target(
 ) -> u32
     ensures { OnService live.old.cell.state result live.new.cell.state (client.new ≡ client.old)
         (λ old new. (new ≡ old) × Replies answer_status result
-        (λ r. GetsKeys old r × (client.new ≡ written plain_client r client.old))) }
+        (λ r. GetsKeys old.live r × (client.new ≡ written plain_client r client.old))) }
 {
     let Some(mut service) = live.take(alloc) else {
         return FREE;
     };
-    let status = asking::key_target(&service, client);
+    let status = asking::key_target(service.live(), client);
     live.put(service);
     status
 }
@@ -61,12 +61,12 @@ pub extern "C" fn inputflinger_proved_live_is_responsive(
     answer: &mut u8,
 ) -> u32
     ensures { OnService live.old.cell.state result live.new.cell.state (answer.new ≡ answer.old)
-        (λ old new. (result ≡ is_ok) × ((new ≡ old) × Responds old (client_of client.now) answer.new)) }
+        (λ old new. (result ≡ is_ok) × ((new ≡ old) × Responds old.live (client_of client.now) answer.new)) }
 {
     let Some(mut service) = live.take(alloc) else {
         return FREE;
     };
-    *answer = asking::is_responsive(&service, client);
+    *answer = asking::is_responsive(service.live(), client);
     live.put(service);
     OK
 }
@@ -82,12 +82,12 @@ pub extern "C" fn inputflinger_proved_live_holds(
 ) -> u32
     ensures { OnService live.old.cell.state result live.new.cell.state (ids.new ≡ ids.old)
         (λ old new. (new ≡ old) × Reads (device_of device) result (ids.new ≡ ids.old)
-        (λ d. (result ≡ is_ok) × Holds old (client_of client.now) d ids.new)) }
+        (λ d. (result ≡ is_ok) × Holds old.live (client_of client.now) d ids.new)) }
 {
     let Some(mut service) = live.take(alloc) else {
         return FREE;
     };
-    let status = asking::holds(&service, client, device, ids);
+    let status = asking::holds(service.live(), client, device, ids);
     live.put(service);
     status
 }
@@ -100,12 +100,12 @@ pub extern "C" fn inputflinger_proved_live_clock(
     moment_us: &mut u64,
 ) -> u32
     ensures { OnService live.old.cell.state result live.new.cell.state (moment_us.new ≡ moment_us.old)
-        (λ old new. (result ≡ is_ok) × ((new ≡ old) × IsClock old moment_us.new)) }
+        (λ old new. (result ≡ is_ok) × ((new ≡ old) × IsClock old.live moment_us.new)) }
 {
     let Some(mut service) = live.take(alloc) else {
         return FREE;
     };
-    *moment_us = asking::clock(&service);
+    *moment_us = asking::clock(service.live());
     live.put(service);
     OK
 }

@@ -1,10 +1,10 @@
 //! Where the service of a handle is stored.
 ghost use Rattle.std.specs.Prelude.{◌≡◌, Option, Some, None, IsSome};
-ghost use Rattle.live_input.specs.State.{LiveState};
+ghost use Rattle.live_input.specs.declared.limit.Limited.{Limited as LimitedView};
 ghost use Rattle.inputflinger_c.specs.LiveOwning.{live_coded, live_owns};
 
 use crate::unboxed::Unboxed;
-use live_input::Live;
+use live_input::Limited;
 use std::alloc::Global;
 use std::marker::Model;
 use std::ptr;
@@ -14,7 +14,7 @@ use std::ptr;
 pub struct LiveCell {
     at: *mut u8,
     alloc: Global,
-    pub ghost state: { Option LiveState } by { live_coded },
+    pub ghost state: { Option LimitedView } by { live_coded },
 }
 
 impl Model for LiveCell {
@@ -33,7 +33,7 @@ impl LiveCell {
     }
 
     /// The cell of a service.
-    pub fn of(service: Unboxed<Live, Global>) -> LiveCell
+    pub fn of(service: Unboxed<Limited, Global>) -> LiveCell
         ensures { result.state ≡ Some service.value }
     {
         let Unboxed { at, alloc } = service;
@@ -51,11 +51,11 @@ impl LiveCell {
     }
 
     /// The service of a cell that has one.
-    pub fn into_box(self) -> Box<Live>
+    pub fn into_box(self) -> Box<Limited>
         requires { IsSome self.state }
         ensures { self.state ≡ Some result.value }
     {
         let LiveCell { at, alloc } = self;
-        unsafe { Box::from_raw(alloc, at as *mut Live) }
+        unsafe { Box::from_raw(alloc, at as *mut Limited) }
     }
 }

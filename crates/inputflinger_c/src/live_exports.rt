@@ -6,7 +6,7 @@ ghost use Rattle.inputflinger_c.specs.Serving.{Begins, LiveFrees, LiveOpens};
 
 use crate::service::Service;
 use input_types::{Displays, Limit};
-use live_input::Live;
+use live_input::Limited;
 use plain_calls::status::{FREE, MEMORY, OK, RANGE, TAKEN};
 use plain_calls::{PlainDisplays, limit_of};
 use std::alloc::{AllocError, Global};
@@ -44,10 +44,10 @@ pub extern "C" fn inputflinger_proved_live_new(
 /// A new service in a block of its own. It is not inlined: in a caller that has just read the displays, LLVM 22 set up
 /// the large frame of a service with a register that held one of them.
 #[inline(never)]
-fn boxed(alloc: Global, limit: Limit, displays: &Displays) -> Result<Box<Live>, AllocError>
+fn boxed(alloc: Global, limit: Limit, displays: &Displays) -> Result<Box<Limited>, AllocError>
     ensures { IfOk result (λ b. Begins limit displays.now b.value) }
 {
-    let live = Live::new(alloc, limit, displays)?;
+    let live = Limited::new(alloc, limit, displays)?;
     Ok(Box::new(alloc, live)?)
 }
 

@@ -6,7 +6,7 @@ ghost use Rattle.plain_calls.specs.Getting.{AreWaiting, Received, Finished, Pilf
 ghost use Rattle.plain_calls.specs.Numbers.{device_of, moment_of};
 ghost use Rattle.plain_calls.specs.Replies.{next_status, message_in, finish_status, pilfer_status};
 ghost use Rattle.plain_calls.specs.Status.{is_ok};
-ghost use Rattle.plain_calls.specs.Told.{plain_message};
+ghost use Rattle.plain_calls.specs.Told.{told_to};
 ghost use Rattle.inputflinger_c.specs.Serving.{OnService};
 
 use crate::service::Service;
@@ -24,7 +24,7 @@ pub extern "C" fn inputflinger_proved_live_next(
 ) -> u32
     ensures { OnService live.old.cell.state result live.new.cell.state (message.new ≡ message.old)
         (λ old new. Replies next_status result (λ r. Received (client_of client.now) old new r
-        × (message.new ≡ written plain_message (message_in r) message.old))) }
+        × (message.new ≡ written (told_to old.live.seats (client_of client.now)) (message_in r) message.old))) }
 {
     let Some(mut service) = live.take(alloc) else {
         return FREE;
@@ -85,12 +85,12 @@ pub extern "C" fn inputflinger_proved_live_waiting(
     mask: &mut u64,
 ) -> u32
     ensures { OnService live.old.cell.state result live.new.cell.state (mask.new ≡ mask.old)
-        (λ old new. (result ≡ is_ok) × ((new ≡ old) × AreWaiting old mask.new)) }
+        (λ old new. (result ≡ is_ok) × ((new ≡ old) × AreWaiting old.live mask.new)) }
 {
     let Some(mut service) = live.take(alloc) else {
         return FREE;
     };
-    *mask = messages::waiting(&service);
+    *mask = messages::waiting(service.live());
     live.put(service);
     OK
 }

@@ -22,7 +22,7 @@ pub extern "C" fn inputflinger_proved_live_next_any(
         ((client.new ≡ client.old) × (message.new ≡ message.old) × (last.new ≡ last.old))
         (λ old new. Replies any_status result (λ r. ReceivedAny old new r
         × (client.new ≡ written plain_owner (handed_in r) client.old)
-        × (message.new ≡ written plain_told (handed_in r) message.old)
+        × (message.new ≡ written (plain_told new.live.seats) (handed_in r) message.old)
         × (last.new ≡ written plain_last (handed_in r) last.old))) }
 {
     let Some(mut service) = live.take(alloc) else {

@@ -1,12 +1,12 @@
 //! The windows of a live service, the focus, and what can be asked about its clients.
 ghost use Rattle.std.specs.Prelude.{◌≡◌, ⊤, nat_eq};
 ghost use Rattle.plain_calls.specs.Calling.{Reads, Replies};
-ghost use Rattle.plain_calls.specs.Clients.{maybe_client};
+ghost use Rattle.plain_calls.specs.Clients.{client_of, maybe_client};
 ghost use Rattle.plain_calls.specs.Numbers.{display_of, moment_of};
 ghost use Rattle.plain_calls.specs.Replies.{focus_status};
-ghost use Rattle.plain_calls.specs.Showing.{Asked, NothingShown, ShowsRead};
+ghost use Rattle.plain_calls.specs.Showing.{Asked, NothingShown, ReplacesRead, ShowsRead};
 ghost use Rattle.plain_calls.specs.Status.{no_memory};
-ghost use Rattle.plain_calls.specs.Windows.{windows_from};
+ghost use Rattle.plain_calls.specs.Windows.{one_from, windows_from};
 ghost use Rattle.inputflinger_c.specs.Serving.{OnService};
 
 use crate::service::Service;
@@ -33,6 +33,28 @@ pub extern "C" fn inputflinger_proved_live_windows(
         return FREE;
     };
     let status = showing::windows(alloc, &mut service, now_us, windows, rects, named);
+    live.put(service);
+    status
+}
+
+/// Replaces the window of a client; see `showing::window`. `FREE` if the handle is free.
+#[unsafe(no_mangle)]
+pub extern "C" fn inputflinger_proved_live_window(
+    alloc: Global,
+    live: &mut Service,
+    now_us: u64,
+    window: &PlainWindow,
+    rects: &[PlainRect],
+) -> u32
+    ensures { OnService live.old.cell.state result live.new.cell.state ⊤
+        (λ old new. Reads (moment_of now_us) result (new ≡ old)
+        (λ now. ReplacesRead (nat_eq result no_memory) (client_of window.now.client) (one_from window.now rects.now)
+        result now old new)) }
+{
+    let Some(mut service) = live.take(alloc) else {
+        return FREE;
+    };
+    let status = showing::window(alloc, &mut service, now_us, window, rects);
     live.put(service);
     status
 }

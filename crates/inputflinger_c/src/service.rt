@@ -4,7 +4,7 @@ ghost use Rattle.std.specs.Option.{option_map};
 
 use crate::live_cell::LiveCell;
 use crate::unboxed::Unboxed;
-use live_input::Live;
+use live_input::Limited;
 use std::alloc::Global;
 use std::mem;
 
@@ -35,7 +35,7 @@ impl Service {
     }
 
     /// Takes the service out of its handle, which is then free. None if it was free before.
-    pub(crate) fn take(&mut self, alloc: Global) -> Option<Box<Live>>
+    pub(crate) fn take(&mut self, alloc: Global) -> Option<Box<Limited>>
         ensures taken { option_map (λ b. b.value) result ≡ self.old.cell.state }
         ensures free { self.new.cell.state ≡ None }
     {
@@ -47,7 +47,7 @@ impl Service {
     }
 
     /// Puts a service into a handle that is free.
-    pub(crate) fn put(&mut self, live: Box<Live>)
+    pub(crate) fn put(&mut self, live: Box<Limited>)
         requires { self.old.cell.state ≡ None }
         ensures { self.new.cell.state ≡ Some live.value }
     {

@@ -8,13 +8,15 @@ use crate::judge_keys::PlainKey;
 use crate::judge_state::PlainState;
 use crate::service::Service;
 use plain_calls::plugging::{PlainAxis, PlainCook};
-use plain_calls::{PlainClient, PlainDisplays, PlainMessage, PlainPointer, PlainRect, PlainWindow};
+use plain_calls::{
+    PlainClient, PlainDisplays, PlainMessage, PlainOptions, PlainPointer, PlainRect, PlainWindow,
+};
 use plain_run::PlainRan;
 use std::mem::size_of;
 
 /// The size of a struct in bytes, by its number: 0 for a judge, 1 for a pointer, 2 for a message, 3 for a fault, 4 for
 /// a state, 5 for a key, 6 for a live service, 7 for a client, 8 for a rectangle, 9 for a window, 10 for an axis, 11
-/// for a panel, 12 for displays, 13 for the result of a run. 0 for any other number.
+/// for a panel, 12 for displays, 13 for the result of a run, 14 for the options of a client. 0 for any other number.
 #[unsafe(no_mangle)]
 pub extern "C" fn inputflinger_proved_size(number: u32) -> usize
     ensures { result ≡ size_of number }
@@ -34,6 +36,7 @@ pub extern "C" fn inputflinger_proved_size(number: u32) -> usize
         11 => size_of::<PlainCook>(),
         12 => size_of::<PlainDisplays>(),
         13 => size_of::<PlainRan>(),
+        14 => size_of::<PlainOptions>(),
         _ => 0,
     }
 }

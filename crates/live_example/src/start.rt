@@ -1,7 +1,7 @@
 //! The service at the start: a panel, and two clients with their windows.
 use device_reader::touch_mapper::Cook;
 use input_types::{Axis, DeviceId, DisplayId, Displays, Limit, Moment, Rotation};
-use live_input::{Client, ClientWindow, Live};
+use live_input::{Client, ClientWindow, Live, WindowInfo};
 use std::alloc::Global;
 use touch_region::{Rect, Region};
 use window_snapshot::{Occlusion, Percent};
@@ -27,13 +27,15 @@ fn window(alloc: Global, client: Client, left: i32, right: i32) -> Option<Client
     rects.push(frame).ok()?;
     Some(ClientWindow {
         client: Some(client),
-        display: DisplayId::zero(),
-        frame,
-        region: Region::new(rects).ok()?,
-        flags: bitflags::Flags::from_bits_retain(0),
-        owner: 0,
-        opacity: Percent::whole(),
-        occlusion: Occlusion::Block,
+        info: WindowInfo {
+            display: DisplayId::zero(),
+            frame,
+            region: Region::new(rects).ok()?,
+            flags: bitflags::Flags::from_bits_retain(0),
+            owner: 0,
+            opacity: Percent::whole(),
+            occlusion: Occlusion::Block,
+        },
     })
 }
 

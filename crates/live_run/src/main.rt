@@ -6,6 +6,8 @@
 //! visits 2        two clients come and go, one after another, with 10,000 events each
 //! one 1000        1,000 rounds of one finger over one window
 //! ten 1000        1,000 rounds of ten fingers over five windows, two on each
+//! mute 2000       2,000 rounds in which a client is given the focus or loses it, and receives nothing
+//! slow 2000       2,000 rounds of one finger, over a client that receives 64 messages every 4.9 seconds
 //! ```
 //!
 //! All visits are to one service, on which one client stays and never finishes a message. Each run of rounds has a
@@ -16,10 +18,12 @@
 #![tactic(auto)]
 
 mod guests;
+mod lazy;
 mod rounds;
 mod service;
 
 use crate::guests::Guests;
+use crate::lazy::Lazy;
 use std::alloc::{AllocError, Global};
 use std::io;
 
@@ -41,6 +45,26 @@ fn taken(alloc: Global, word: &str, count: u64) -> Option<u64> {
 fn rounded(alloc: Global, word: &str, count: u64) -> Result<String, AllocError> {
     match taken(alloc, word, count) {
         Some(taken) => format!(in alloc; "{word} {count}: {taken} messages"),
+        None => format!(in alloc; "{word} {count}: refused"),
+    }
+}
+
+/// What some rounds sent a client that does not receive all of it, if no call was refused.
+fn left(alloc: Global, word: &str, count: u64) -> Option<Lazy> {
+    match word {
+        "mute" => lazy::mute(alloc, count),
+        "slow" => lazy::slow(alloc, count),
+        _ => None,
+    }
+}
+
+/// Runs some of these rounds, and prints what they sent.
+fn lazed(alloc: Global, word: &str, count: u64) -> Result<String, AllocError> {
+    match left(alloc, word, count) {
+        Some(told) => {
+            let Lazy { sent, named } = told;
+            format!(in alloc; "{word} {count}: {sent} messages, {named} named")
+        }
         None => format!(in alloc; "{word} {count}: refused"),
     }
 }
@@ -69,6 +93,8 @@ fn visited(alloc: Global, guests: &mut Guests, count: u64) -> Result<String, All
 fn answer(alloc: Global, guests: &mut Guests, line: &str) -> Result<String, AllocError> {
     match line.split_once(' ') {
         Some(("visits", count)) => visited(alloc, guests, number(count)),
+        Some(("mute", count)) => lazed(alloc, "mute", number(count)),
+        Some(("slow", count)) => lazed(alloc, "slow", number(count)),
         Some((word, count)) => rounded(alloc, word, number(count)),
         None => String::from_str(alloc, "not read"),
     }

@@ -1,7 +1,7 @@
 //! A service with a panel: packets go in, and clients take what they are sent.
 use device_reader::touch_mapper::Cook;
 use input_types::{Axis, DeviceId, DisplayId, Displays, Limit, Message, Moment, Rotation};
-use live_input::{Client, ClientWindow, Live};
+use live_input::{Client, ClientWindow, Limited, WindowInfo};
 use raw_events::codes::{
     ABS_MT_POSITION_X, ABS_MT_POSITION_Y, ABS_MT_SLOT, ABS_MT_TRACKING_ID, EV_ABS, EV_SYN,
     SYN_REPORT,
@@ -14,14 +14,14 @@ use window_snapshot::{Occlusion, Percent};
 #[derive(Drop)]
 pub(crate) struct Service {
     pub alloc: Global,
-    pub live: Live,
+    pub live: Limited,
     pub panel: DeviceId,
     /// How many events were handed in.
     pub events: u64,
 }
 
 /// Plugs in a panel with ten slots.
-fn plug_in(live: &mut Live) -> Option<DeviceId> {
+fn plug_in(live: &mut Limited) -> Option<DeviceId> {
     let x = Axis { min: 0, max: 1079 };
     let y = Axis { min: 0, max: 2399 };
     let cook = Cook::new(x, y, 1080, 2400, Rotation::R0).ok()?;
@@ -29,7 +29,7 @@ fn plug_in(live: &mut Live) -> Option<DeviceId> {
 }
 
 /// A service with a panel, if it could be plugged in.
-fn with_panel(alloc: Global, mut live: Live) -> Option<Service> {
+fn with_panel(alloc: Global, mut live: Limited) -> Option<Service> {
     match plug_in(&mut live) {
         Some(panel) => Some(Service {
             alloc,
@@ -47,13 +47,15 @@ pub(crate) fn window(alloc: Global, client: Client, frame: Rect) -> Option<Clien
     rects.push(frame).ok()?;
     Some(ClientWindow {
         client: Some(client),
-        display: DisplayId::zero(),
-        frame,
-        region: Region::new(rects).ok()?,
-        flags: bitflags::Flags::from_bits_retain(0),
-        owner: 0,
-        opacity: Percent::whole(),
-        occlusion: Occlusion::Block,
+        info: WindowInfo {
+            display: DisplayId::zero(),
+            frame,
+            region: Region::new(rects).ok()?,
+            flags: bitflags::Flags::from_bits_retain(0),
+            owner: 0,
+            opacity: Percent::whole(),
+            occlusion: Occlusion::Block,
+        },
     })
 }
 
@@ -67,7 +69,7 @@ impl Service {
     /// A service without clients. A client may leave a message unfinished for five seconds.
     pub(crate) fn new(alloc: Global) -> Option<Service> {
         let limit = Limit::new(5_000_000)?;
-        match Live::new(alloc, limit, &Displays::new()) {
+        match Limited::new(alloc, limit, &Displays::new()) {
             Ok(live) => with_panel(alloc, live),
             Err(_) => None,
         }

@@ -16,50 +16,58 @@ use Rattle.live_input.specs.declared.refused.FinishRefused.TheVariants as finish
 use Rattle.live_input.specs.declared.refused.PilferRefused.{PilferRefused}
 use Rattle.live_input.specs.declared.refused.PilferRefused.TheVariants as pilfer
 use Rattle.live_input.specs.Answers.{SameClients, Finishes, Pilfers, handed}
+use Rattle.live_input.specs.Receiving.{receives}
 use Rattle.live_input.specs.Seats.{is_open, seat_of, number_of}
 use Rattle.live_input.specs.Standing.{LiveIs}
+use Rattle.live_input.specs.declared.limit.Limited.{Limited}
+use Rattle.live_input.specs.LimitedCalls.{ReportsChoked}
+use Rattle.live_input.specs.Easing.{EasedFirst, KeepsNamed}
 use Rattle.live_input.specs.State.{LiveState, latest}
 use Rattle.live_input.specs.Outgoing.{taken}
 
 -- the result of receiving the next message of a client
-pub record Received (client : Client) (old new : LiveState) (r : Result (Option Message) AllocError) : Type 0 where
-  pub stale : is_open old.seats client ≡ false → (r ≡ Ok None) × (new ≡ old)
+pub record Received (client : Client) (old new : Limited) (r : Result (Option Message) AllocError) : Type 0 where
+  pub wanted : new.wanted ≡ old.wanted
+  pub stale : is_open old.live.seats client ≡ false → (r ≡ Ok None) × (new.live ≡ old.live)
   pub message :
-      (ds : List ℕ) (es : List Effect) → LiveIs ds es old → is_open old.seats client ≡ true
-      → IfOk r (λ m. m ≡ handed (seat_of old.seats client.channel) (got (reply_to es (Receive client.channel))))
+      (ds : List ℕ) (es : List Effect) → LiveIs ds es old.live → is_open old.live.seats client ≡ true
+      → IfOk r (λ m. m ≡ handed (seat_of old.live.seats client.channel) (got (reply_to es (Receive client.channel))))
   pub after :
-      (ds : List ℕ) (es : List Effect) → LiveIs ds es old → is_open old.seats client ≡ true
-      → OnOk r (LiveIs ds (answered ds (Receive client.channel) es) new)
+      (ds : List ℕ) (es : List Effect) → LiveIs ds es old.live → is_open old.live.seats client ≡ true
+      → OnOk r (LiveIs ds (receives ds es old.live client.channel) new.live)
   pub numbers :
-      (ds : List ℕ) (es : List Effect) → LiveIs ds es old → is_open old.seats client ≡ true
-      → IfOk r (λ told. IfSome told (λ m. m.seq ≡ taken (seat_of old.seats client.channel) es client.channel + 1))
+      (ds : List ℕ) (es : List Effect) → LiveIs ds es old.live → is_open old.live.seats client ≡ true
+      → IfOk r (λ told. IfSome told (λ m. m.seq ≡ taken (seat_of old.live.seats client.channel) es client.channel + 1))
   pub kept :
-      (ds : List ℕ) (es : List Effect) → LiveIs ds es old → is_open old.seats client ≡ true
-      → OnOk r (gone new.dispatcher client.channel ≡ received (past_of (answered ds (Receive client.channel) es)) client.channel)
-  pub clients : SameClients old new
-  pub named : new.named ≡ old.named
-  pub clock : new.clock ≡ old.clock
-  pub err : OnErr r (new ≡ old)
-  pub calm : (ds : List ℕ) (es : List Effect) → LiveIs ds es old → MayCount es → IsOk r
+      (ds : List ℕ) (es : List Effect) → LiveIs ds es old.live → is_open old.live.seats client ≡ true
+      → OnOk r (gone new.live.dispatcher client.channel ≡ received (past_of (answered ds (Receive client.channel) es)) client.channel)
+  pub clients : SameClients old.live new.live
+  pub named : new.live.named ≡ old.live.named
+  pub clock : new.live.clock ≡ old.live.clock
+  pub err : OnErr r (new.live ≡ old.live)
+  pub calm : (ds : List ℕ) (es : List Effect) → LiveIs ds es old.live → MayCount es → IsOk r
 
 -- the result of finishing a message
-pub record Finished (now : ℕ) (client : Client) (seq : ℕ) (old new : LiveState) (r : Result (Unit {0}) FinishRefused) : Type 0 where
-  pub stale : is_open old.seats client ≡ false → (r ≡ Err finish.NotOpen) × (new ≡ old)
+pub record Finished (now : ℕ) (client : Client) (seq : ℕ) (old new : Limited) (r : Result (Unit {0}) FinishRefused) : Type 0 where
+  pub wanted : new.wanted ≡ old.wanted
+  pub stale : is_open old.live.seats client ≡ false → (r ≡ Err finish.NotOpen) × (new.live ≡ old.live)
   pub after :
-      (ds : List ℕ) (es : List Effect) → LiveIs ds es old → is_open old.seats client ≡ true
-      → Finishes ds es (Finish (latest now old) client.channel (number_of (seat_of old.seats client.channel) seq)) r old new
-  pub clients : SameClients old new
-  pub named : new.named ≡ old.named
-  pub calm : (ds : List ℕ) (es : List Effect) → LiveIs ds es old → MayCount es → r ≡ Err finish.Memory → ⊥
+      (ds : List ℕ) (es : List Effect) → LiveIs ds es old.live → is_open old.live.seats client ≡ true
+      → Finishes ds es (Finish (latest now old.live) client.channel (number_of (seat_of old.live.seats client.channel) seq)) r old.live new.live
+  pub clients : SameClients old.live new.live
+  pub named : new.live.named ≡ old.live.named
+  pub calm : (ds : List ℕ) (es : List Effect) → LiveIs ds es old.live → MayCount es → r ≡ Err finish.Memory → ⊥
 
 -- the result of a pilfer
-pub record Pilfered (now : ℕ) (client : Client) (device : ℕ) (old new : LiveState) (r : Result (Unit {0}) PilferRefused) : Type 0 where
-  pub stale : is_open old.seats client ≡ false → (r ≡ Err pilfer.NotOpen) × (new ≡ old)
+pub record Pilfered (now : ℕ) (client : Client) (device : ℕ) (old new : Limited) (r : Result (Unit {0}) PilferRefused) : Type 0 where
+  pub stale : is_open old.live.seats client ≡ false → (r ≡ Err pilfer.NotOpen) × (new ≡ old)
   pub after :
-      (ds : List ℕ) (es : List Effect) → LiveIs ds es old → is_open old.seats client ≡ true
-      → Pilfers ds es (Pilfer (latest now old) client.channel device) r old new
-  pub clients : SameClients old new
-  pub named : new.named ≡ old.named
+      (ds : List ℕ) (es : List Effect) → LiveIs ds es old.live → is_open old.live.seats client ≡ true
+      → EasedFirst ds (latest now old.live) es old new (r ≡ Err pilfer.Memory)
+      (λ fs eased. Pilfers ds fs (Pilfer (latest now old.live) client.channel device) r eased.live new.live × (new.wanted ≡ eased.wanted))
+  pub clients : SameClients old.live new.live
+  pub named : KeepsNamed old.live.named new.live.named
+  pub reports : (ds : List ℕ) (es : List Effect) → LiveIs ds es old.live → ReportsChoked old new
 
 -- a mask of the channels that have a message for their client
 abbrev pub AreWaiting : LiveState → ℕ → Type 0

@@ -4,7 +4,7 @@ use Rattle.std.specs.Str.{is_utf8}
 use Rattle.key_layout.specs.declared.error.LayoutError.{LayoutError}
 use Rattle.key_layout.specs.declared.error.LayoutError.TheVariants as error
 use Rattle.key_layout.specs.Layout.{Codes, layout_of}
-use Rattle.live_input.specs.State.{LiveState}
+use Rattle.live_input.specs.declared.limit.Limited.{Limited}
 use Rattle.plain_calls.specs.Calling.{Replies, ok_of, written}
 use Rattle.plain_calls.specs.Driving.{KeysAdded}
 use Rattle.plain_calls.specs.Replies.{add_status}
@@ -37,7 +37,7 @@ IsLayout (Err Memory) due = Unit {0}
 -- The result of plugging in a device with keys, by whether memory ran out. If it did, nothing changes. Otherwise
 -- either its text is not a layout, and the line is reported, or the device is plugged in.
 abbrev pub AddsKeys :
-    Bool → Result Codes ℕ → ℕ → (display : ℕ) → (old new : LiveState) → (device device_after line line_after : ℕ) → Type 0
+    Bool → Result Codes ℕ → ℕ → (display : ℕ) → (old new : Limited) → (device device_after line line_after : ℕ) → Type 0
 AddsKeys true layout status y old new device device_after line line_after =
     (new ≡ old) × ((device_after ≡ device) × (line_after ≡ line))
 AddsKeys false (Err n) status y old new device device_after line line_after =

@@ -3,6 +3,8 @@ pub mod Numbers
 pub mod Plain
 pub mod Told
 pub mod Calling
+pub mod Choking
+pub mod Options
 pub mod Clients
 pub mod Replies
 pub mod Coming
@@ -17,3 +19,5 @@ pub mod Asking
 pub mod Laws
 pub mod Through
 pub mod NextAny
+pub mod Fingers
+pub mod Pointing

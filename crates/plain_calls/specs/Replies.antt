@@ -9,6 +9,8 @@ use Rattle.live_input.specs.declared.refused.ArgsRefused.{ArgsRefused}
 use Rattle.live_input.specs.declared.refused.ArgsRefused.TheVariants as args
 use Rattle.live_input.specs.declared.refused.CloseRefused.{CloseRefused}
 use Rattle.live_input.specs.declared.refused.CloseRefused.TheVariants as close
+use Rattle.live_input.specs.declared.refused.FingerRefused.{FingerRefused}
+use Rattle.live_input.specs.declared.refused.FingerRefused.TheVariants as finger
 use Rattle.live_input.specs.declared.refused.FinishRefused.{FinishRefused}
 use Rattle.live_input.specs.declared.refused.FinishRefused.TheVariants as finish
 use Rattle.live_input.specs.declared.refused.FocusRefused.{FocusRefused}
@@ -17,6 +19,8 @@ use Rattle.live_input.specs.declared.refused.OpenRefused.{OpenRefused}
 use Rattle.live_input.specs.declared.refused.OpenRefused.TheVariants as opening
 use Rattle.live_input.specs.declared.refused.PilferRefused.{PilferRefused}
 use Rattle.live_input.specs.declared.refused.PilferRefused.TheVariants as pilfer
+use Rattle.live_input.specs.declared.refused.WindowRefused.{WindowRefused}
+use Rattle.live_input.specs.declared.refused.WindowRefused.TheVariants as window
 use Rattle.live_input.specs.declared.refused.WindowsRefused.{WindowsRefused}
 use Rattle.live_input.specs.declared.refused.WindowsRefused.TheVariants as windows
 use Rattle.plain_calls.specs.Calling.{answer_status}
@@ -47,6 +51,13 @@ abbrev pub named_by : Result (Unit {0}) WindowsRefused → Option ℕ
 named_by (Err (windows.NotOpen place)) = Some place
 named_by (Err (windows.Twice channel)) = Some channel
 named_by reply = None
+
+-- the status of one window that is handed in
+abbrev pub window_status : Result (Unit {0}) WindowRefused → ℕ
+window_status (Ok done) = status.is_ok
+window_status (Err window.NotOpen) = status.not_open
+window_status (Err window.NotShown) = status.not_shown
+window_status (Err window.Memory) = status.no_memory
 
 -- the status of a focus request
 abbrev pub focus_status : Result (Unit {0}) FocusRefused → ℕ
@@ -82,6 +93,14 @@ args_status (Err args.NoDevice) = status.no_device
 args_status (Err args.Inconsistent) = status.is_inconsistent
 args_status (Err args.Memory) = status.no_memory
 args_status (Err args.Waits) = status.it_waits
+
+-- the status of what a finger does
+abbrev pub finger_status : Result (Unit {0}) FingerRefused → ℕ
+finger_status (Ok done) = status.is_ok
+finger_status (Err finger.IsDown) = status.is_down
+finger_status (Err finger.NotDown) = status.not_down
+finger_status (Err finger.TooMany) = status.many_fingers
+finger_status (Err (finger.Device refused)) = args_status (Err refused)
 
 -- the status of the next message
 abbrev pub next_status : Result (Option Message) AllocError → ℕ

@@ -84,3 +84,19 @@ bad_layout = 20
 -- the words are those of a command that starts threads
 abbrev pub no_threads : ℕ
 no_threads = 21
+
+-- the client has no window now
+abbrev pub not_shown : ℕ
+not_shown = 22
+
+-- a finger with this touch id is down on the panel
+abbrev pub is_down : ℕ
+is_down = 23
+
+-- no finger with this touch id is down on the panel
+abbrev pub not_down : ℕ
+not_down = 24
+
+-- as many fingers as the panel has slots are down on it
+abbrev pub many_fingers : ℕ
+many_fingers = 25

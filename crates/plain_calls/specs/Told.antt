@@ -1,5 +1,5 @@
 -- Messages as C gets them.
-use Rattle.std.specs.Prelude.{ℕ, pos, List, ◌++◌, map, drop, length, replicate}
+use Rattle.std.specs.Prelude.{ℕ, pos, List, ◌++◌, map, drop, length, replicate, Option, Some, None}
 use Rattle.input_types.specs.Action.{action_number}
 use Rattle.input_types.specs.declared.key.KeyMsg.{KeyMsg}
 use Rattle.input_types.specs.declared.message.Body.{Body}
@@ -7,6 +7,9 @@ use Rattle.input_types.specs.declared.message.Body.TheVariants.{Motion as Motion
 use Rattle.input_types.specs.declared.message.Message.{Message}
 use Rattle.input_types.specs.declared.motion.Motion.{Motion}
 use Rattle.input_types.specs.declared.pointer.Pointer.{Pointer}
+use Rattle.live_input.specs.declared.client.Client.{Client}
+use Rattle.live_input.specs.declared.client.Seat.{Seat}
+use Rattle.live_input.specs.Seats.{user_data_of}
 use Rattle.plain_calls.specs.Numbers.{flag}
 use Rattle.plain_calls.specs.declared.message.PlainMessage.{PlainMessage}
 use Rattle.plain_calls.specs.declared.message.PlainPointer.{PlainPointer}
@@ -41,6 +44,7 @@ numbered seq moment = record {
   down = 0;
   focus = 0;
   pointers = replicate 16 no_pointer;
+  user_data = 0;
 }
 
 -- a message with this motion
@@ -77,3 +81,12 @@ with_body (Focus has) p = record p { kind = 2; focus = flag has }
 -- a message by its numbers
 abbrev pub plain_message : Message → PlainMessage
 plain_message m = with_body m.body (numbered m.seq m.moment)
+
+-- a message with the number that its client was opened with, if there is one
+abbrev pub with_user_data : Option ℕ → PlainMessage → PlainMessage
+with_user_data None p = p
+with_user_data (Some n) p = record p { user_data = n }
+
+-- a message as a client gets it: with the number that the client was opened with
+abbrev pub told_to : List Seat → Client → Message → PlainMessage
+told_to seats k m = with_user_data (user_data_of seats k) (plain_message m)

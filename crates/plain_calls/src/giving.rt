@@ -10,10 +10,10 @@ use crate::message::PlainMessage;
 use crate::numbers::{device_of, moment_of};
 use crate::replies::args_status;
 use crate::status::{MEMORY, OK, RANGE};
-use live_input::Live;
+use live_input::Limited;
 
 /// Hands in an event of a device, with the type, code and value of the kernel's `struct input_event`.
-pub fn event(live: &mut Live, now_us: u64, device: u8, kind: u16, code: u16, value: i32) -> u32
+pub fn event(live: &mut Limited, now_us: u64, device: u8, kind: u16, code: u16, value: i32) -> u32
     ensures { Reads (moment_of now_us) result (live.new ≡ live.old)
         (λ now. Reads (device_of device) result (live.new ≡ live.old)
         (λ d. Replies args_status result
@@ -30,7 +30,7 @@ pub fn event(live: &mut Live, now_us: u64, device: u8, kind: u16, code: u16, val
 
 /// Hands in a ready-made motion or key, or a reset of a device: the body of the message, whose number and time are
 /// ignored.
-pub fn args(live: &mut Live, now_us: u64, message: &PlainMessage) -> u32
+pub fn args(live: &mut Limited, now_us: u64, message: &PlainMessage) -> u32
     ensures { Reads (moment_of now_us) result (live.new ≡ live.old)
         (λ now. Reads (args_of message.now) result (live.new ≡ live.old)
         (λ a. Replies args_status result (HandedIn now a live.old live.new))) }
@@ -45,7 +45,7 @@ pub fn args(live: &mut Live, now_us: u64, message: &PlainMessage) -> u32
 }
 
 /// Makes room for the next `events` events, of any devices. `MEMORY` if memory runs out: nothing changes.
-pub fn reserve(live: &mut Live, events: u16) -> u32
+pub fn reserve(live: &mut Limited, events: u16) -> u32
     ensures { Replies reserve_status result (Reserved events live.old live.new) }
 {
     match live.reserve(events) {

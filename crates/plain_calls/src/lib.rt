@@ -18,9 +18,11 @@
 #![tactic(auto)]
 
 pub mod asking;
+pub mod choking;
 mod client;
 pub mod clients;
 pub mod driving;
+pub mod fingers;
 pub mod giving;
 pub mod laws;
 mod layouts;
@@ -28,8 +30,10 @@ mod message;
 pub mod messages;
 pub mod next_any;
 mod numbers;
+mod options;
 pub mod plugging;
 mod pointers;
+pub mod pointing;
 mod replies;
 mod screens;
 pub mod showing;
@@ -41,5 +45,6 @@ mod windows;
 pub use client::PlainClient;
 pub use message::{PlainMessage, PlainPointer};
 pub use numbers::{flag, limit_of};
+pub use options::PlainOptions;
 pub use screens::PlainDisplays;
 pub use windows::{PlainRect, PlainWindow};

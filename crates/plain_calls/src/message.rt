@@ -41,7 +41,10 @@ pub struct PlainMessage {
     pub down: u8,
     /// 1 if the window gains the focus, 0 if it loses it.
     pub focus: u8,
+    /// The members up to here are those of the first release.
     pub pointers: [PlainPointer; 16],
+    /// The number that the client was opened with. Only messages that a client gets have it; elsewhere it is ignored.
+    pub user_data: u64,
 }
 
 impl PlainMessage {

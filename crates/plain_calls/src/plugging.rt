@@ -15,7 +15,7 @@ use crate::status::{BAD_LAYOUT, BAD_SLOTS, MEMORY, OK, RANGE, TOO_MANY};
 use device_reader::touch_mapper::Cook;
 use input_types::{Axis, DisplayId, Rotation};
 use key_layout::Layout;
-use live_input::{AddRefused, Live};
+use live_input::{AddRefused, Limited};
 use std::alloc::Global;
 
 /// The range of the raw positions of a panel on one axis, both ends included: `struct inputflinger_axis`.
@@ -74,7 +74,13 @@ fn rotation_of(number: u8) -> Option<Rotation>
 
 /// Plugs in a panel on a display, with 1 to 16 slots. `BAD_SLOTS` for another number of slots, and `TOO_MANY` if all
 /// numbers of the display are taken; `device` then stays as it was.
-pub fn add_touch(live: &mut Live, display: u8, slots: u8, cook: &PlainCook, device: &mut u8) -> u32
+pub fn add_touch(
+    live: &mut Limited,
+    display: u8,
+    slots: u8,
+    cook: &PlainCook,
+    device: &mut u8,
+) -> u32
     ensures { Reads (display_of display) result ((live.new ≡ live.old) × (device.new ≡ device.old))
         (λ y. Reads (cook_of cook.now) result ((live.new ≡ live.old) × (device.new ≡ device.old))
         (λ c. Replies add_status result (λ r. TouchAdded y slots c live.old live.new r
@@ -97,7 +103,7 @@ pub fn add_touch(live: &mut Live, display: u8, slots: u8, cook: &PlainCook, devi
 }
 
 /// Unplugs a device.
-pub fn remove_device(live: &mut Live, now_us: u64, device: u8) -> u32
+pub fn remove_device(live: &mut Limited, now_us: u64, device: u8) -> u32
     ensures { Reads (moment_of now_us) result (live.new ≡ live.old)
         (λ now. Reads (device_of device) result (live.new ≡ live.old)
         (λ d. Replies args_status result (Removed now d live.old live.new))) }
@@ -116,7 +122,7 @@ pub fn remove_device(live: &mut Live, now_us: u64, device: u8) -> u32
 /// and `MEMORY` if memory runs out. On an error `device` stays as it was.
 pub fn add_keys(
     alloc: Global,
-    live: &mut Live,
+    live: &mut Limited,
     display: u8,
     text: &[u8],
     device: &mut u8,
@@ -141,7 +147,7 @@ pub fn add_keys(
 }
 
 /// Plugs in a device with keys of this layout.
-fn plug_in(live: &mut Live, display: DisplayId, layout: Layout, device: &mut u8) -> u32
+fn plug_in(live: &mut Limited, display: DisplayId, layout: Layout, device: &mut u8) -> u32
     ensures { (line : ℕ) → AddsKeys (nat_eq result no_memory) (Ok layout) result display live.old live.new
         device.old device.new line line }
 {

@@ -1,11 +1,14 @@
 //! The statuses of the service's replies.
 ghost use Rattle.std.specs.Prelude.{◌≡◌};
-ghost use Rattle.plain_calls.specs.Replies.{close_status, focus_status, finish_status, pilfer_status, args_status};
+ghost use Rattle.plain_calls.specs.Replies.{close_status, focus_status, finish_status, pilfer_status, args_status, finger_status};
 
 use crate::status::{
-    INCONSISTENT, MEMORY, NO_DEVICE, NOT_OPEN, NOT_SPY, NOTHING_HELD, OK, UNKNOWN_SEQ, WAITS,
+    INCONSISTENT, IS_DOWN, MANY_FINGERS, MEMORY, NO_DEVICE, NOT_DOWN, NOT_OPEN, NOT_SPY,
+    NOTHING_HELD, OK, UNKNOWN_SEQ, WAITS,
 };
-use live_input::{ArgsRefused, CloseRefused, FinishRefused, FocusRefused, PilferRefused};
+use live_input::{
+    ArgsRefused, CloseRefused, FingerRefused, FinishRefused, FocusRefused, PilferRefused,
+};
 
 /// The status of a closing.
 pub(crate) fn close_status(reply: Result<(), CloseRefused>) -> u32
@@ -64,5 +67,18 @@ pub(crate) fn args_status(reply: Result<(), ArgsRefused>) -> u32
         Err(ArgsRefused::Inconsistent) => INCONSISTENT,
         Err(ArgsRefused::Memory) => MEMORY,
         Err(ArgsRefused::Waits) => WAITS,
+    }
+}
+
+/// The status of what a finger does.
+pub(crate) fn finger_status(reply: Result<(), FingerRefused>) -> u32
+    ensures { result ≡ finger_status reply }
+{
+    match reply {
+        Ok(()) => OK,
+        Err(FingerRefused::IsDown) => IS_DOWN,
+        Err(FingerRefused::NotDown) => NOT_DOWN,
+        Err(FingerRefused::TooMany) => MANY_FINGERS,
+        Err(FingerRefused::Device(refused)) => args_status(Err(refused)),
     }
 }

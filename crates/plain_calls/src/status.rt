@@ -62,3 +62,15 @@ pub const BAD_LAYOUT: u32 = 20;
 
 /// The words are those of `race`, which starts threads. Nothing ran.
 pub const NO_THREADS: u32 = 21;
+
+/// The client has no window now. Nothing changed.
+pub const NOT_SHOWN: u32 = 22;
+
+/// A finger with this touch id is down on the panel. Nothing changed.
+pub const IS_DOWN: u32 = 23;
+
+/// No finger with this touch id is down on the panel. Nothing changed.
+pub const NOT_DOWN: u32 = 24;
+
+/// As many fingers as the panel has slots are down on it. Nothing changed.
+pub const MANY_FINGERS: u32 = 25;

@@ -1,6 +1,6 @@
 //! Messages as C gets them.
 ghost use Rattle.std.specs.Prelude.{◌≡◌, ◌≤◌, ◌++◌, map, drop, length};
-ghost use Rattle.plain_calls.specs.Told.{plain_pointer, numbered, with_motion, with_key, with_body, plain_message};
+ghost use Rattle.plain_calls.specs.Told.{plain_pointer, numbered, with_motion, with_key, with_body, with_user_data, plain_message};
 
 use crate::message::{PlainMessage, PlainPointer};
 use crate::numbers::flag;
@@ -16,6 +16,24 @@ impl PlainMessage {
         let mut plain = PlainMessage::numbered(message.seq, message.moment);
         plain.send(&message.body);
         plain
+    }
+
+    /// A message that a client gets, with the number that the client was opened with.
+    pub(crate) fn to(message: &Message, user_data: Option<u64>) -> PlainMessage
+        ensures { result ≡ with_user_data user_data (plain_message message.now) }
+    {
+        let mut plain = PlainMessage::of(message);
+        plain.add(user_data);
+        plain
+    }
+
+    /// Fills in the number that a client was opened with.
+    fn add(&mut self, user_data: Option<u64>)
+        ensures { self.new ≡ with_user_data user_data self.old }
+    {
+        if let Some(user_data) = user_data {
+            self.user_data = user_data;
+        }
     }
 
     /// A message with only its number and its time filled in.
@@ -38,6 +56,7 @@ impl PlainMessage {
             down: 0,
             focus: 0,
             pointers: [NO_POINTER; 16],
+            user_data: 0,
         }
     }
 

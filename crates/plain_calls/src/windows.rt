@@ -1,12 +1,12 @@
 //! Windows as C hands them in.
 ghost use Rattle.std.specs.Prelude.{◌≡◌, map, IfOk};
-ghost use Rattle.plain_calls.specs.Windows.{rect_of, region_from, window_with, window_from, windows_from, AreRead, IsRead};
+ghost use Rattle.plain_calls.specs.Windows.{rect_of, region_from, info_with, info_from, window_from, windows_from, one_from, AreRead, IsRead};
 ghost use Rattle.plain_calls.specs.declared.windows.Unread.TheVariants.{Memory};
 
 use crate::client::PlainClient;
 use crate::numbers::{display_of, occlusion_of, percent_of};
 use input_types::DisplayId;
-use live_input::ClientWindow;
+use live_input::{ClientWindow, WindowInfo};
 use std::alloc::{AllocError, AllocFailed, Global};
 use touch_region::{Rect, Region, RegionError};
 use window_snapshot::{Occlusion, Percent};
@@ -102,18 +102,17 @@ fn region_from(alloc: Global, rects: &[PlainRect]) -> Result<Region, Unread>
 }
 
 impl PlainWindow {
-    /// The window on a display, with this opacity, occlusion and region.
+    /// The window on a display, with this opacity, occlusion and region, except its client.
     fn with(
         &self,
         display: DisplayId,
         opacity: Percent,
         occlusion: Occlusion,
         region: Region,
-    ) -> ClientWindow
-        ensures { result ≡ window_with self.now display opacity occlusion region }
+    ) -> WindowInfo
+        ensures { result ≡ info_with self.now display opacity occlusion region }
     {
-        ClientWindow {
-            client: self.client.read_if_any(),
+        WindowInfo {
             display,
             frame: rect_of(&self.frame),
             region,
@@ -124,9 +123,9 @@ impl PlainWindow {
         }
     }
 
-    /// The window, whose rectangles are these.
-    fn read(&self, alloc: Global, rects: &[PlainRect]) -> Result<ClientWindow, Unread>
-        ensures { IsRead result (window_from self.now rects.now) }
+    /// The window, whose rectangles are these, except its client.
+    fn read_info(&self, alloc: Global, rects: &[PlainRect]) -> Result<WindowInfo, Unread>
+        ensures { IsRead result (info_from self.now rects.now) }
     {
         let Some(display) = display_of(self.display) else {
             return Err(Unread::Range);
@@ -141,6 +140,30 @@ impl PlainWindow {
             Ok(region) => Ok(self.with(display, opacity, occlusion, region)),
             Err(error) => Err(error),
         }
+    }
+
+    /// The window, whose rectangles are these. One whose client has the channel 0 is a wall.
+    fn read(&self, alloc: Global, rects: &[PlainRect]) -> Result<ClientWindow, Unread>
+        ensures { IsRead result (window_from self.now rects.now) }
+    {
+        match self.read_info(alloc, rects) {
+            Ok(info) => Ok(ClientWindow {
+                client: self.client.read_if_any(),
+                info,
+            }),
+            Err(error) => Err(error),
+        }
+    }
+
+    /// The window, whose rectangles are the first of these, except its client.
+    pub(crate) fn read_one(&self, alloc: Global, rects: &[PlainRect]) -> Result<WindowInfo, Unread>
+        ensures { IsRead result (one_from self.now rects.now) }
+    {
+        let count = self.rects as usize;
+        if rects.len() < count {
+            return Err(Unread::Range);
+        }
+        self.read_info(alloc, rects.split_at(count).0)
     }
 }
 

@@ -1,5 +1,6 @@
-use Rattle.std.proofs.Common.{◌≡◌, refl, subst}
+use Rattle.std.proofs.Common.{◌≡◌, ◌∙◌, refl, ap, subst}
 use Rattle.live_input.specs.declared.client.Client.{Client}
+use Rattle.live_input.specs.declared.limit.Limited.{Limited}
 use Rattle.plain_calls.specs.Asking.{HasFocus}
 use Rattle.plain_calls.specs.Calling.{Reads, Replies, answer_status, written}
 use Rattle.plain_calls.specs.Clients.{plain_client}
@@ -14,5 +15,5 @@ returns c =
       subst (λ s. Reads (display_of c.args.display) c.focused-status.result (c.focused-status.new.client ≡ c.args.client.now)
           (λ y. Replies (answer_status {A = Client}) c.focused-status.result
           (λ r. HasFocus s y r × (c.focused-status.new.client ≡ written plain_client r c.args.client.now))))
-          c.deref.ensures c.focused-status.ensures,
+          (c.live.ensures ∙ ap (λ (s : Limited). s.live) c.deref.ensures) c.focused-status.ensures,
     )

@@ -1,5 +1,6 @@
-use Rattle.std.proofs.Common.{◌≡◌, refl, subst}
+use Rattle.std.proofs.Common.{◌≡◌, ◌∙◌, refl, ap, subst}
 use Rattle.live_input.specs.declared.client.Client.{Client}
+use Rattle.live_input.specs.declared.limit.Limited.{Limited}
 use Rattle.plain_calls.specs.Asking.{GetsKeys}
 use Rattle.plain_calls.specs.Calling.{Replies, answer_status, written}
 use Rattle.plain_calls.specs.Clients.{plain_client}
@@ -12,5 +13,5 @@ returns c =
       refl,
       subst (λ s. Replies (answer_status {A = Client}) c.key_target-status.result
           (λ r. GetsKeys s r × (c.key_target-status.new.client ≡ written plain_client r c.args.client.now)))
-          c.deref.ensures c.key_target-status.ensures,
+          (c.live.ensures ∙ ap (λ (s : Limited). s.live) c.deref.ensures) c.key_target-status.ensures,
     )

@@ -36,9 +36,9 @@ use Rattle.std_alloc.specs.contracts.boxed.Box.from_raw as g
 use Rattle.std_alloc.proofs.boxed.Box.from_raw.Met as g-met
 use Rattle.std_heap.proofs.GlobalAllocator.TheImpl.Met as heap-met
 use Rattle.std_heap.proofs.Global.TheLaws as heap
-use Rattle.live_input.specs.State.{LiveState}
-use Rattle.live_input.specs.contracts.live.Live as Live
-use Rattle.live_input.proofs.live.Live.TheLaws as live
+use Rattle.live_input.specs.declared.limit.Limited.{Limited}
+use Rattle.live_input.specs.contracts.limit.Limited as Live
+use Rattle.live_input.proofs.limit.Limited.TheLaws as live
 use Rattle.inputflinger_c.specs.LiveOwning.{live_owns}
 use Rattle.inputflinger_c.specs.contracts.live_cell.LiveCell as Cell
 use Rattle.inputflinger_c.specs.contracts.live_cell.LiveCell.into_box as f
@@ -72,7 +72,7 @@ module _ {M : Type 1} {𝓤 : Ura M} (𝓛 : Logic 𝓤) (at_mem : Memory → SP
   abbrev Asks : Contract 𝓤
   Asks = triple_of 𝓛 (g.signature X A global.g global.d global.drops) (g.spec X A global.g global.d global.drops 𝓛 at_mem answers)
 
-  module _ (at : Ptr) (alloc : Global) (v : Val) (state : LiveState) where
+  module _ (at : Ptr) (alloc : Global) (v : Val) (state : Limited) where
     -- the call: it lasts as long as the program, and is of the service that the cell has
     abbrev call : Asks.Ghost
     call = ((([], ([], tt)), (full_share, (full_share, tt)), tt, (alloc, (at, tt)), (v ∷ [], (ptr_val at ∷ [], tt))), state)
@@ -113,7 +113,7 @@ into_box_spec {M} 𝓤 𝓛 𝓜 𝓡 wired =
     split ! $ drop ! $ fsplit ! $ fsplit ! $
     taken_apart global ! cell.at cell.alloc words (λ v are_pair fits.
     -- [the allocator; what the cell owns; nothing]
-    move ! (1 ∷ []) $ rewrite ! 0 (λ (o : Option LiveState). ‵ (live_owns cell.alloc cell.at o)) state.1 refl $
+    move ! (1 ∷ []) $ rewrite ! 0 (λ (o : Option Limited). ‵ (live_owns cell.alloc cell.at o)) state.1 refl $
     regoal ! (λ (ws : List Val). prop (WpFn 𝓤 𝓛.H 𝓣.C 𝓣.Λ code.function (ws ++ []) (Ends y))) are_pair refl $
     enter ! _ _ _ _ _ $ alloc_all ! (λ ls. pass_all ! refl (good_pair global cell.at v fits, tt) $
     sets ! (of_opd ! (get_in ! (fld ! refl (stop !)) (sub ! 0 refl (whole !)))) refl (good_address cell.at) $

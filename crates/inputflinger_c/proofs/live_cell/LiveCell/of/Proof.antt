@@ -16,7 +16,7 @@ use denote.Signature.{plain}
 use denote.Triple.Walked.{Stays, stay_dropped, walk_of, Goes-dropped}
 use Rattle.std.specs.Prelude.{Some}
 use Rattle.std.proofs.raw_atomic.Walks.{proved_at, leaves}
-use Rattle.live_input.specs.contracts.live.Live as Live
+use Rattle.live_input.specs.contracts.limit.Limited as Live
 use Rattle.inputflinger_c.specs.contracts.live_cell.LiveCell as Cell
 use Rattle.inputflinger_c.specs.contracts.unboxed.Unboxed as Unboxed
 use Rattle.inputflinger_c.specs.contracts.live_cell.LiveCell.of as f
