@@ -68,6 +68,43 @@ int inputflinger_live_event(struct inputflinger_live *live, uint64_t now_us, uin
 	return (int)inputflinger_proved_live_event(live, now_us, device, type, code, value);
 }
 
+int inputflinger_live_touch_down(struct inputflinger_live *live, uint64_t now_us, uint8_t device, int32_t id, int32_t x,
+		int32_t y)
+{
+	if (live == NULL)
+		return INPUTFLINGER_NULL;
+	return (int)inputflinger_proved_live_touch_down(live, now_us, device, id, x, y);
+}
+
+int inputflinger_live_touch_motion(struct inputflinger_live *live, uint64_t now_us, uint8_t device, int32_t id, int32_t x,
+		int32_t y)
+{
+	if (live == NULL)
+		return INPUTFLINGER_NULL;
+	return (int)inputflinger_proved_live_touch_motion(live, now_us, device, id, x, y);
+}
+
+int inputflinger_live_touch_up(struct inputflinger_live *live, uint64_t now_us, uint8_t device, int32_t id)
+{
+	if (live == NULL)
+		return INPUTFLINGER_NULL;
+	return (int)inputflinger_proved_live_touch_up(live, now_us, device, id);
+}
+
+int inputflinger_live_touch_cancel(struct inputflinger_live *live, uint64_t now_us, uint8_t device, int32_t id)
+{
+	if (live == NULL)
+		return INPUTFLINGER_NULL;
+	return (int)inputflinger_proved_live_touch_cancel(live, now_us, device, id);
+}
+
+int inputflinger_live_touch_frame(struct inputflinger_live *live, uint64_t now_us, uint8_t device)
+{
+	if (live == NULL)
+		return INPUTFLINGER_NULL;
+	return (int)inputflinger_proved_live_touch_frame(live, now_us, device);
+}
+
 int inputflinger_live_args_sized(struct inputflinger_live *live, uint64_t now_us,
 		const struct inputflinger_message *message, size_t message_size)
 {
@@ -83,9 +120,35 @@ int inputflinger_live_args_sized(struct inputflinger_live *live, uint64_t now_us
 
 int inputflinger_live_open(struct inputflinger_live *live, struct inputflinger_client *client)
 {
+	static const struct inputflinger_options none;
+
 	if (live == NULL || client == NULL)
 		return INPUTFLINGER_NULL;
-	return (int)inputflinger_proved_live_open(live, client);
+	return (int)inputflinger_proved_live_open(live, &none, client);
+}
+
+int inputflinger_live_open_with_sized(struct inputflinger_live *live, const struct inputflinger_options *options,
+		size_t options_size, struct inputflinger_client *client)
+{
+	struct inputflinger_options room;
+
+	if (live == NULL || options == NULL || client == NULL)
+		return INPUTFLINGER_NULL;
+	options = sized_given(&room, sizeof room, OPTIONS_FIRST, options, options_size);
+	if (options == NULL)
+		return other_size(live);
+	return (int)inputflinger_proved_live_open(live, options, client);
+}
+
+int inputflinger_live_user_data(const struct inputflinger_live *live, const struct inputflinger_client *client,
+		uint64_t *user_data)
+{
+	struct inputflinger_live own;
+
+	if (live == NULL || client == NULL || user_data == NULL)
+		return INPUTFLINGER_NULL;
+	own = *live;
+	return (int)inputflinger_proved_live_user_data(&own, client, user_data);
 }
 
 int inputflinger_live_close(struct inputflinger_live *live, uint64_t now_us, const struct inputflinger_client *client)
@@ -169,6 +232,21 @@ int inputflinger_live_windows_sized(struct inputflinger_live *live, uint64_t now
 	if (window_size == sizeof *windows || windows_len == 0)
 		return show(live, now_us, windows, windows_len, rects, rects_len, named);
 	return show_sized(live, now_us, windows, window_size, windows_len, rects, rects_len, named);
+}
+
+int inputflinger_live_window_sized(struct inputflinger_live *live, uint64_t now_us,
+		const struct inputflinger_window *window, size_t window_size,
+		const struct inputflinger_rect *rects, size_t rects_len)
+{
+	static const struct inputflinger_rect no_rect;
+	struct inputflinger_window room;
+
+	if (live == NULL || window == NULL || (rects == NULL && rects_len != 0))
+		return INPUTFLINGER_NULL;
+	window = sized_given(&room, sizeof room, WINDOW_FIRST, window, window_size);
+	if (window == NULL)
+		return other_size(live);
+	return (int)inputflinger_proved_live_window(live, now_us, window, rects != NULL ? rects : &no_rect, rects_len);
 }
 
 int inputflinger_live_focus(struct inputflinger_live *live, uint64_t now_us, uint8_t display,
@@ -262,6 +340,29 @@ int inputflinger_live_due(const struct inputflinger_live *live, uint64_t *moment
 	return (int)inputflinger_proved_live_due(&own, moment_us);
 }
 
+int inputflinger_live_set_most(struct inputflinger_live *live, uint64_t most)
+{
+	if (live == NULL)
+		return INPUTFLINGER_NULL;
+	return (int)inputflinger_proved_live_set_most(live, most);
+}
+
+int inputflinger_live_is_choked(const struct inputflinger_live *live, const struct inputflinger_client *client,
+		bool *is_choked)
+{
+	struct inputflinger_live own;
+	uint8_t told = 0;
+	uint32_t status;
+
+	if (live == NULL || client == NULL || is_choked == NULL)
+		return INPUTFLINGER_NULL;
+	own = *live;
+	status = inputflinger_proved_live_is_choked(&own, client, &told);
+	if (status == INPUTFLINGER_OK)
+		*is_choked = told != 0;
+	return (int)status;
+}
+
 int inputflinger_live_reserve(struct inputflinger_live *live, uint16_t events)
 {
 	if (live == NULL)
@@ -304,6 +405,17 @@ int inputflinger_live_key_target(const struct inputflinger_live *live, struct in
 		return INPUTFLINGER_NULL;
 	own = *live;
 	return (int)inputflinger_proved_live_key_target(&own, client);
+}
+
+int inputflinger_live_window_at(const struct inputflinger_live *live, uint8_t display, int32_t x, int32_t y,
+		struct inputflinger_client *client)
+{
+	struct inputflinger_live own;
+
+	if (live == NULL || client == NULL)
+		return INPUTFLINGER_NULL;
+	own = *live;
+	return (int)inputflinger_proved_live_window_at(&own, display, x, y, client);
 }
 
 int inputflinger_live_is_responsive(const struct inputflinger_live *live, const struct inputflinger_client *client,

@@ -25,9 +25,19 @@ uint32_t inputflinger_proved_live_add_keys(struct inputflinger_live *live, uint8
 uint32_t inputflinger_proved_live_remove_device(struct inputflinger_live *live, uint64_t now_us, uint8_t device);
 uint32_t inputflinger_proved_live_event(struct inputflinger_live *live, uint64_t now_us, uint8_t device,
 		uint16_t type, uint16_t code, int32_t value);
+uint32_t inputflinger_proved_live_touch_down(struct inputflinger_live *live, uint64_t now_us, uint8_t device, int32_t id,
+		int32_t x, int32_t y);
+uint32_t inputflinger_proved_live_touch_motion(struct inputflinger_live *live, uint64_t now_us, uint8_t device, int32_t id,
+		int32_t x, int32_t y);
+uint32_t inputflinger_proved_live_touch_up(struct inputflinger_live *live, uint64_t now_us, uint8_t device, int32_t id);
+uint32_t inputflinger_proved_live_touch_cancel(struct inputflinger_live *live, uint64_t now_us, uint8_t device, int32_t id);
+uint32_t inputflinger_proved_live_touch_frame(struct inputflinger_live *live, uint64_t now_us, uint8_t device);
 uint32_t inputflinger_proved_live_args(struct inputflinger_live *live, uint64_t now_us,
 		const struct inputflinger_message *message);
-uint32_t inputflinger_proved_live_open(struct inputflinger_live *live, struct inputflinger_client *client);
+uint32_t inputflinger_proved_live_open(struct inputflinger_live *live, const struct inputflinger_options *options,
+		struct inputflinger_client *client);
+uint32_t inputflinger_proved_live_user_data(struct inputflinger_live *live, const struct inputflinger_client *client,
+		uint64_t *user_data);
 uint32_t inputflinger_proved_live_close(struct inputflinger_live *live, uint64_t now_us,
 		const struct inputflinger_client *client);
 uint32_t inputflinger_proved_live_is_open(struct inputflinger_live *live, const struct inputflinger_client *client,
@@ -37,6 +47,8 @@ uint32_t inputflinger_proved_live_client_at(struct inputflinger_live *live, uint
 uint32_t inputflinger_proved_live_windows(struct inputflinger_live *live, uint64_t now_us,
 		const struct inputflinger_window *windows, size_t windows_len, const struct inputflinger_rect *rects,
 		size_t rects_len, uint64_t *named);
+uint32_t inputflinger_proved_live_window(struct inputflinger_live *live, uint64_t now_us,
+		const struct inputflinger_window *window, const struct inputflinger_rect *rects, size_t rects_len);
 uint32_t inputflinger_proved_live_focus(struct inputflinger_live *live, uint64_t now_us, uint8_t display,
 		const struct inputflinger_client *client);
 uint32_t inputflinger_proved_live_pilfer(struct inputflinger_live *live, uint64_t now_us,
@@ -51,12 +63,17 @@ uint32_t inputflinger_proved_live_finish(struct inputflinger_live *live, uint64_
 uint32_t inputflinger_proved_live_finish_through(struct inputflinger_live *live, uint64_t now_us,
 		const struct inputflinger_client *client, uint64_t seq);
 uint32_t inputflinger_proved_live_due(struct inputflinger_live *live, uint64_t *moment_us);
+uint32_t inputflinger_proved_live_set_most(struct inputflinger_live *live, uint64_t most);
+uint32_t inputflinger_proved_live_is_choked(struct inputflinger_live *live, const struct inputflinger_client *client,
+		uint8_t *answer);
 uint32_t inputflinger_proved_live_reserve(struct inputflinger_live *live, uint16_t events);
 uint32_t inputflinger_proved_live_advance(struct inputflinger_live *live, uint64_t now_us, uint64_t *mask);
 uint32_t inputflinger_proved_live_clock(struct inputflinger_live *live, uint64_t *moment_us);
 uint32_t inputflinger_proved_live_focused(struct inputflinger_live *live, uint8_t display,
 		struct inputflinger_client *client);
 uint32_t inputflinger_proved_live_key_target(struct inputflinger_live *live, struct inputflinger_client *client);
+uint32_t inputflinger_proved_live_window_at(struct inputflinger_live *live, uint8_t display, int32_t x, int32_t y,
+		struct inputflinger_client *client);
 uint32_t inputflinger_proved_live_is_responsive(struct inputflinger_live *live,
 		const struct inputflinger_client *client, uint8_t *told);
 uint32_t inputflinger_proved_live_holds(struct inputflinger_live *live, const struct inputflinger_client *client,

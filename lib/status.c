@@ -50,6 +50,14 @@ const char *inputflinger_status_text(int status)
 		return "the text is not a key layout";
 	case INPUTFLINGER_NO_THREADS:
 		return "the words are those of race, which starts threads";
+	case INPUTFLINGER_NOT_SHOWN:
+		return "the client has no window";
+	case INPUTFLINGER_FINGER_DOWN:
+		return "a finger with this touch id is down on the panel";
+	case INPUTFLINGER_NO_FINGER:
+		return "no finger with this touch id is down on the panel";
+	case INPUTFLINGER_TOO_MANY_FINGERS:
+		return "as many fingers as the panel has slots are down on it";
 	}
 	return "unknown status";
 }

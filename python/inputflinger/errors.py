@@ -31,6 +31,10 @@ class Status(enum.IntEnum):
     BAD_SLOTS = 19
     BAD_LAYOUT = 20
     NO_THREADS = 21
+    NOT_SHOWN = 22
+    FINGER_DOWN = 23
+    NO_FINGER = 24
+    TOO_MANY_FINGERS = 25
 
 
 class InputflingerError(Exception):

@@ -157,6 +157,29 @@ class Live:
         """Hands in an event of a device, with the type, code and value of the kernel's struct input_event."""
         done(native.call("live_event", byref(self._handle), u64(now_us), u8(device), u16(type), u16(code), i32(value)))
 
+    def touch_down(self, now_us: int, device: int, id: int, x: int, y: int) -> None:
+        """A finger goes down on a panel, at a position in the units of the panel. Its touch id is any 32-bit number that no other finger on the panel has.
+
+        The next ``touch_frame`` dispatches what the fingers did. A 17th finger is refused with the status TOO_MANY_FINGERS. A panel that is driven so is to get
+        no ``event`` and no ``args`` besides."""
+        done(native.call("live_touch_down", byref(self._handle), u64(now_us), u8(device), i32(id), i32(x), i32(y)))
+
+    def touch_motion(self, now_us: int, device: int, id: int, x: int, y: int) -> None:
+        """A finger that is down on a panel moves."""
+        done(native.call("live_touch_motion", byref(self._handle), u64(now_us), u8(device), i32(id), i32(x), i32(y)))
+
+    def touch_up(self, now_us: int, device: int, id: int) -> None:
+        """A finger that is down on a panel goes up. If it went down since the last frame, it gives nothing."""
+        done(native.call("live_touch_up", byref(self._handle), u64(now_us), u8(device), i32(id)))
+
+    def touch_cancel(self, now_us: int, device: int, id: int) -> None:
+        """A finger that is down on a panel is cancelled, as a palm. The frame ends with it."""
+        done(native.call("live_touch_cancel", byref(self._handle), u64(now_us), u8(device), i32(id)))
+
+    def touch_frame(self, now_us: int, device: int) -> None:
+        """Dispatches what the fingers of a panel did since the last frame."""
+        done(native.call("live_touch_frame", byref(self._handle), u64(now_us), u8(device)))
+
     def args(self, now_us: int, message: Message) -> None:
         """Hands in a motion or a key of a device, in display pixels."""
         told = plain(message)
@@ -167,11 +190,18 @@ class Live:
         told = native.Message(kind=RESET, device=u8(device))
         done(native.call("live_args_sized", byref(self._handle), u64(now_us), byref(told), ctypes.sizeof(told)))
 
-    def open(self) -> Client:
-        """Opens a client on the first free channel."""
-        client = native.Client()
-        done(native.call("live_open", byref(self._handle), byref(client)))
+    def open(self, user_data: int = 0, finishes: bool = False) -> Client:
+        """Opens a client on the first free channel. Each of its messages has the user data. If it finishes by itself, each message counts as finished as
+        soon as it is received."""
+        client, options = native.Client(), native.Options(u64(user_data), bool(finishes))
+        done(native.call("live_open_with_sized", byref(self._handle), byref(options), ctypes.sizeof(options), byref(client)))
         return Client(client.channel, client.generation)
+
+    def user_data(self, client: Client) -> int:
+        """The user data that an open client was opened with."""
+        user_data = ctypes.c_uint64()
+        done(native.call("live_user_data", byref(self._handle), byref(client.plain()), byref(user_data)))
+        return user_data.value
 
     def close(self, now_us: int, client: Client) -> None:
         """Closes a client. Its window is no longer shown, and what it holds is cancelled."""
@@ -196,6 +226,14 @@ class Live:
         if status in (Status.NOT_OPEN, Status.TWICE):
             raise WindowError(status, named.value)
         done(status)
+
+    def window(self, now_us: int, window: Window) -> None:
+        """Replaces the window of a client. It stays where it is, front to back, and all other windows stay as they are.
+
+        ``Status.NOT_SHOWN`` if the client has no window now, and ``Status.NOT_OPEN`` for a wall, which has no client."""
+        rects, row = [rect.plain() for rect in window.rects()], window.plain()
+        areas = (native.Rect * len(rects))(*rects)
+        done(native.call("live_window_sized", byref(self._handle), u64(now_us), byref(row), ctypes.sizeof(row), areas, len(rects)))
 
     def focus(self, now_us: int, client: Optional[Client], display: int = 0) -> None:
         """Requests the focus of a display for a client, or for none."""
@@ -238,9 +276,21 @@ class Live:
         done(native.call("live_finish_through", byref(self._handle), u64(now_us), byref(client.plain()), u64(seq)))
 
     def due(self) -> Optional[int]:
-        """The first time at which something is due. While input waits for memory, it is the clock."""
+        """The first time at which something is due. While input waits for memory, or a client is to be choked, released or reported, it is the clock."""
         time = ctypes.c_uint64()
         return time.value if found(native.call("live_due", byref(self._handle), byref(time))) else None
+
+    def set_most(self, most: int) -> None:
+        """Sets how many messages a client may leave unreceived, 10,000 at first. A client that has more is choked by the next call that may send
+        something: the next ``advance`` reports its channel, a wall takes the place of its window, and it loses the focus. It has both back once it has
+        finished all of its messages."""
+        done(native.call("live_set_most", byref(self._handle), u64(most)))
+
+    def is_choked(self, client: Client) -> bool:
+        """Whether a client is open and choked."""
+        answer = ctypes.c_bool()
+        done(native.call("live_is_choked", byref(self._handle), byref(client.plain()), byref(answer)))
+        return answer.value
 
     def reserve(self, events: int) -> None:
         """Makes room for the next events of devices, so that none of them is ``Status.WAITS``, if nothing waits now and no other call comes between."""
@@ -265,6 +315,10 @@ class Live:
     def key_target(self) -> Optional[Client]:
         """The client that keys go to."""
         return self._client("live_key_target")
+
+    def window_at(self, x: int, y: int, display: int = 0) -> Optional[Client]:
+        """The client whose window a touch at a pixel of a display goes to; None if there is no window, or a wall."""
+        return self._client("live_window_at", u8(display), i32(x), i32(y))
 
     def is_responsive(self, client: Client) -> bool:
         """Whether a client is open and responds."""

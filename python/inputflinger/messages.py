@@ -57,7 +57,7 @@ class Pointer:
 @dataclasses.dataclass(frozen=True)
 class Motion:
     """A motion of a device, 1 to 8. It lists all pointers that are down, at most 16, with rising ids; ``index`` is the place of the one that goes down or
-    up, for POINTER_DOWN and POINTER_UP."""
+    up, for POINTER_DOWN and POINTER_UP. ``user_data`` is what the client was opened with that gets the message; it is ignored in one that is handed in."""
 
     device: int
     action: Action
@@ -66,6 +66,7 @@ class Motion:
     flags: int = 0
     seq: int = 0
     time_us: int = 0
+    user_data: int = 0
 
 
 @dataclasses.dataclass(frozen=True)
@@ -81,6 +82,7 @@ class Key:
     flags: int = 0
     seq: int = 0
     time_us: int = 0
+    user_data: int = 0
 
 
 @dataclasses.dataclass(frozen=True)
@@ -90,6 +92,7 @@ class Focus:
     focus: bool
     seq: int = 0
     time_us: int = 0
+    user_data: int = 0
 
 
 Message = Union[Motion, Key, Focus]
@@ -158,11 +161,11 @@ def message_of(told: native.Message) -> Message:
     """A message that the library wrote."""
     if told.kind == MOTION:
         pointers = tuple(Pointer(p.id, p.x, p.y) for p in told.pointers[: told.count])
-        return Motion(told.device, Action(told.action), pointers, told.index, told.flags, told.seq, told.moment_us)
+        return Motion(told.device, Action(told.action), pointers, told.index, told.flags, told.seq, told.moment_us, told.user_data)
     if told.kind == KEY:
         down = bool(told.down)
-        return Key(told.device, told.scan, down, told.code, told.meta, told.repeat, told.flags, told.seq, told.moment_us)
-    return Focus(bool(told.focus), told.seq, told.moment_us)
+        return Key(told.device, told.scan, down, told.code, told.meta, told.repeat, told.flags, told.seq, told.moment_us, told.user_data)
+    return Focus(bool(told.focus), told.seq, told.moment_us, told.user_data)
 
 
 def fault_of(told: native.Fault) -> Fault:

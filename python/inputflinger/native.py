@@ -34,6 +34,7 @@ class Message(ctypes.Structure):
         ("down", c_uint8),
         ("focus", c_uint8),
         ("pointers", Pointer * 16),
+        ("user_data", c_uint64),
     ]
 
 
@@ -58,6 +59,10 @@ class Key(ctypes.Structure):
 
 class Client(ctypes.Structure):
     _fields_ = [("generation", c_uint64), ("channel", c_uint32)]
+
+
+class Options(ctypes.Structure):
+    _fields_ = [("user_data", c_uint64), ("finishes", c_uint8)]
 
 
 class Rect(ctypes.Structure):
@@ -117,12 +122,20 @@ CALLS = {
     "live_add_keys": [_HANDLE, c_uint8, c_char_p, c_size_t, _U8, _U64],
     "live_remove_device": [_HANDLE, c_uint64, c_uint8],
     "live_event": [_HANDLE, c_uint64, c_uint8, c_uint16, c_uint16, c_int32],
+    "live_touch_down": [_HANDLE, c_uint64, c_uint8, c_int32, c_int32, c_int32],
+    "live_touch_motion": [_HANDLE, c_uint64, c_uint8, c_int32, c_int32, c_int32],
+    "live_touch_up": [_HANDLE, c_uint64, c_uint8, c_int32],
+    "live_touch_cancel": [_HANDLE, c_uint64, c_uint8, c_int32],
+    "live_touch_frame": [_HANDLE, c_uint64, c_uint8],
     "live_args_sized": [_HANDLE, c_uint64, POINTER(Message), c_size_t],
     "live_open": [_HANDLE, _CLIENT],
+    "live_open_with_sized": [_HANDLE, POINTER(Options), c_size_t, _CLIENT],
+    "live_user_data": [_HANDLE, _CLIENT, _U64],
     "live_close": [_HANDLE, c_uint64, _CLIENT],
     "live_is_open": [_HANDLE, _CLIENT, POINTER(c_bool)],
     "live_client_at": [_HANDLE, c_uint32, _CLIENT],
     "live_windows_sized": [_HANDLE, c_uint64, POINTER(Window), c_size_t, c_size_t, POINTER(Rect), c_size_t, _U64],
+    "live_window_sized": [_HANDLE, c_uint64, POINTER(Window), c_size_t, POINTER(Rect), c_size_t],
     "live_focus": [_HANDLE, c_uint64, c_uint8, _CLIENT],
     "live_pilfer": [_HANDLE, c_uint64, _CLIENT, c_uint8],
     "live_waiting": [_HANDLE, _U64],
@@ -131,11 +144,14 @@ CALLS = {
     "live_finish": [_HANDLE, c_uint64, _CLIENT, c_uint64],
     "live_finish_through": [_HANDLE, c_uint64, _CLIENT, c_uint64],
     "live_due": [_HANDLE, _U64],
+    "live_set_most": [_HANDLE, c_uint64],
+    "live_is_choked": [_HANDLE, _CLIENT, POINTER(c_bool)],
     "live_reserve": [_HANDLE, c_uint16],
     "live_advance": [_HANDLE, c_uint64, _U64],
     "live_clock": [_HANDLE, _U64],
     "live_focused": [_HANDLE, c_uint8, _CLIENT],
     "live_key_target": [_HANDLE, _CLIENT],
+    "live_window_at": [_HANDLE, c_uint8, c_int32, c_int32, _CLIENT],
     "live_is_responsive": [_HANDLE, _CLIENT, POINTER(c_bool)],
     "live_holds": [_HANDLE, _CLIENT, c_uint8, _U32],
     "run": [c_char_p, c_size_t, POINTER(File), c_size_t, c_void_p, c_size_t, c_void_p, c_size_t, POINTER(Ran)],

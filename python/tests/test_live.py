@@ -40,6 +40,43 @@ def test_a_finger_of_a_panel_reaches_the_window_below_it() -> None:
         assert live.clock() == 4000 and live.due() is None
 
 
+def test_fingers_come_one_by_one() -> None:
+    with Live() as live:
+        panel, client = live.add_touch(PANEL, slots=16), live.open()
+        live.windows(0, [Window(client, WHOLE)])
+        live.touch_down(1000, panel, 2147483647, 540, 1200)
+        live.touch_down(1000, panel, -3, 90, 200)
+        live.touch_motion(1000, panel, -3, 100, 200)
+        assert live.next(client) is None
+        live.touch_frame(1000, panel)
+        live.touch_up(2000, panel, 2147483647)
+        live.touch_frame(2000, panel)
+        live.touch_cancel(3000, panel, -3)
+        first, second = Pointer(0, 540, 1200), Pointer(1, 100, 200)
+        wanted = [(Action.DOWN, (first,)), (Action.POINTER_DOWN, (first, second)), (Action.POINTER_UP, (first, second)), (Action.CANCEL, (second,))]
+        for action, pointers in wanted:
+            message = live.next(client)
+            assert (message.action, message.pointers) == (action, pointers)
+        assert live.next(client) is None
+
+
+def test_a_seventeenth_finger_is_refused() -> None:
+    with Live() as live:
+        panel = live.add_touch(PANEL, slots=16)
+        for finger in range(16):
+            live.touch_down(1000, panel, 100 * finger, 10 * finger, 0)
+        assert refused(live.touch_down, 2000, panel, 1, 0, 0) == Status.TOO_MANY_FINGERS
+        assert refused(live.touch_down, 2000, panel, 300, 0, 0) == Status.FINGER_DOWN
+        assert refused(live.touch_motion, 2000, panel, 1, 0, 0) == Status.NO_FINGER
+        assert refused(live.touch_up, 2000, panel, 1) == refused(live.touch_cancel, 2000, panel, 1) == Status.NO_FINGER
+        assert refused(live.touch_frame, 2000, 2) == Status.NO_DEVICE and refused(live.touch_frame, 2000, 9) == Status.OUT_OF_RANGE
+        assert live.clock() == 2000
+        live.touch_up(2000, panel, 300)
+        live.touch_down(2000, panel, 1, 0, 0)
+        with pytest.raises(OverflowError):
+            live.touch_up(2000, panel, 2147483648)
+
+
 def test_messages_are_handed_out_in_the_order_of_the_steps() -> None:
     with Live(limit_us=1000000) as live:
         left, right = live.open(), live.open()
@@ -109,6 +146,52 @@ def test_a_wall_takes_touches_that_nobody_is_given() -> None:
             live.args(now, Motion(panel, Action.UP, [Pointer(0, 540, 1200)]))
 
 
+def test_a_window_is_replaced_where_it_is() -> None:
+    with Live() as live:
+        panel = live.add_touch(PANEL)
+        front, back = live.open(), live.open()
+        moved = Window(front, Rect(0, 1200, 1080, 2400))
+        assert refused(live.window, 0, moved) == Status.NOT_SHOWN
+        live.windows(0, [Window(front, WHOLE), Window(back, WHOLE)])
+        live.window(1000, moved)
+        for y, wanted in ((600, (None, 600)), (1800, (600, None))):
+            for action in (Action.DOWN, Action.UP):
+                live.args(2000, Motion(panel, action, [Pointer(0, 540, y)]))
+                messages = [live.next(client) for client in (front, back)]
+                assert tuple(None if message is None else message.pointers[0].y for message in messages) == wanted
+        assert refused(live.window, 9000, Window(front, WHOLE, opacity=101)) == Status.OUT_OF_RANGE
+        assert refused(live.window, 9000, Window(None, WHOLE)) == Status.NOT_OPEN
+        assert live.clock() == 2000
+        live.close(3000, front)
+        assert refused(live.window, 9000, moved) == Status.NOT_OPEN
+
+
+def test_a_client_that_does_not_receive_is_choked_until_it_has_finished_everything() -> None:
+    with Live() as live:
+        panel = live.add_touch(PANEL)
+        client, behind = live.open(), live.open()
+        live.windows(0, [Window(client, WHOLE), Window(behind, WHOLE)])
+        live.focus(0, client)
+        live.set_most(2)
+        for action in (Action.DOWN, Action.UP):
+            live.args(1000, Motion(panel, action, [Pointer(0, 540, 1200)]))
+        assert live.due() == 1000 and not live.is_choked(client)
+        assert live.advance(2000) == {1} and live.is_choked(client)
+        assert live.focused() is None and live.advance(3000) == frozenset()
+        live.args(3000, Motion(panel, Action.DOWN, [Pointer(0, 540, 1200)]))
+        assert live.holds(client, panel) == live.holds(behind, panel) == frozenset()
+        live.args(3000, Motion(panel, Action.UP, [Pointer(0, 540, 1200)]))
+        last = 0
+        while (message := live.next(client)) is not None:
+            last = message.seq
+        assert last == 4 and message is None and live.is_choked(client)
+        live.finish_through(4000, client, last)
+        assert live.due() == 4000 and live.advance(5000) == frozenset()
+        assert not live.is_choked(client) and live.next(client) == Focus(True, 5, 5000)
+        live.close(6000, client)
+        assert not live.is_choked(client)
+
+
 def test_a_spy_pilfers() -> None:
     with Live() as live:
         panel = live.add_touch(PANEL)
@@ -132,3 +215,19 @@ def test_refusals() -> None:
         assert error.value.line == 2
         with pytest.raises(OverflowError):
             live.advance(-1)
+
+
+def test_a_client_that_finishes_by_itself_and_its_user_data() -> None:
+    with Live() as live:
+        panel = live.add_touch(PANEL)
+        own, other = live.open(user_data=11, finishes=True), live.open()
+        assert live.user_data(own) == 11 and live.user_data(other) == 0 and live.window_at(540, 1200) is None
+        live.windows(0, [Window(own, WHOLE), Window(other, WHOLE)])
+        assert live.window_at(540, 1200) == own and live.window_at(1080, 1200) is None and live.window_at(540, 1200, 1) is None
+        assert refused(live.window_at, 0, 0, 4) == Status.OUT_OF_RANGE
+        live.args(1000, Motion(panel, Action.DOWN, [Pointer(0, 540, 1200)]))
+        assert live.due() == 5001000
+        assert live.next(own) == Motion(1, Action.DOWN, (Pointer(0, 540, 1200),), seq=1, time_us=1000, user_data=11)
+        assert live.due() is None and refused(live.finish, 1000, own, 1) == Status.UNKNOWN_SEQ
+        live.close(2000, own)
+        assert refused(live.user_data, own) == Status.NOT_OPEN and live.window_at(540, 1200) == other

@@ -15,8 +15,8 @@ def header() -> str:
 
 
 def test_structs_have_the_sizes_of_the_header() -> None:
-    sizes = {"Handle": 16, "Pointer": 12, "Message": 240, "Fault": 32, "State": 36, "Key": 4, "Client": 16, "Rect": 16}
-    sizes.update({"Window": 56, "Axis": 8, "Panel": 24, "Displays": 8, "File": 16, "Ran": 24})
+    sizes = {"Handle": 16, "Pointer": 12, "Message": 248, "Fault": 32, "State": 36, "Key": 4, "Client": 16, "Rect": 16}
+    sizes.update({"Window": 56, "Axis": 8, "Panel": 24, "Displays": 8, "File": 16, "Ran": 24, "Options": 16})
     assert {name: ctypes.sizeof(getattr(native, name)) for name in sizes} == sizes
 
 

@@ -14,14 +14,17 @@
  *
  * A client is identified by how many were opened up to it, whether or not it is still open. The time of a call comes
  * first. A window is its client, its display, the four edges of its frame, which is also where it can be touched, and its
- * flags as a number; one of `owned` has its owner, its opacity and its occlusion too.
+ * flags as a number; one of `owned` has its owner, its opacity and its occlusion too. `window` replaces one of them.
  *
  * The devices 1 to 6 are of display 0, and 7 and 8 are of display 1. A panel is plugged in by its display and its slots;
  * its positions are the pixels of its display. What a finger does is given in events: `down` has the device, the slot, the
  * tracking id and the position, `move` the device, the slot and the position, `up` and `palm` the device and the slot;
  * `report` is a SYN_REPORT, `dropped` a SYN_DROPPED, and `key` has the scan code and the value. A device with keys has the
- * scan codes 30 and 115. A client may leave a message unfinished for five seconds. `next` has a client, and lists all that
- * it has; `next_any` lists all that any client has, in the order in which the service sent it, and `last` after each step.
+ * scan codes 30 and 115. `touch_down` and `touch_motion` have the device, the touch id and the position, `touch_up` and
+ * `touch_cancel` the device and the touch id, and `touch_frame` has the device. A client may leave a message unfinished
+ * for five seconds. `next` has a client, and lists all that it has; `next_any` lists all that any client has, in the order
+ * in which the service sent it, and `last` after each step. `most` sets how many messages a client may leave
+ * unreceived.
  */
 #include <stdlib.h>
 #include <string.h>
@@ -109,6 +112,7 @@ static const char *name_of(int status)
 	case INPUTFLINGER_NOT_SPY: return "not a spy";
 	case INPUTFLINGER_NOTHING_HELD: return "nothing held";
 	case INPUTFLINGER_NO_DEVICE: return "no device";
+	case INPUTFLINGER_NOT_SHOWN: return "not shown";
 	case INPUTFLINGER_INCONSISTENT: return "inconsistent";
 	default: return inputflinger_status_text(status);
 	}
@@ -199,6 +203,8 @@ static bool reading(const struct line *line)
 		puts(it ? " yes" : " no");
 	else if (is(line, "responsive?", 1) && inputflinger_live_is_responsive(&live, client(line->n[0]), &it) == INPUTFLINGER_OK)
 		puts(it ? " yes" : " no");
+	else if (is(line, "choked?", 1) && inputflinger_live_is_choked(&live, client(line->n[0]), &it) == INPUTFLINGER_OK)
+		puts(it ? " yes" : " no");
 	else if (is(line, "holds", 2) && inputflinger_live_holds(&live, client(line->n[0]), (uint8_t)line->n[1], &ids) == INPUTFLINGER_OK)
 		printf(" %" PRIu32 "\n", ids);
 	else if (is(line, "waiting", 0) && inputflinger_live_waiting(&live, &number) == INPUTFLINGER_OK)
@@ -247,6 +253,28 @@ static bool receiving(const struct line *line)
 	return true;
 }
 
+/* A window of so many numbers. */
+static struct inputflinger_window window_of(const uint64_t *n, size_t numbers)
+{
+	struct inputflinger_window window = {.client = *client(n[0]), .display = (uint8_t)n[1], .flags = (uint32_t)n[6], .rects = 1};
+
+	window.frame = (struct inputflinger_rect){(int32_t)n[2], (int32_t)n[3], (int32_t)n[4], (int32_t)n[5]};
+	if (numbers == 10) {
+		window.owner = (uint32_t)n[7];
+		window.opacity = (uint8_t)n[8];
+		window.occlusion = (uint8_t)n[9];
+	}
+	return window;
+}
+
+/* Replaces one window. */
+static int window(const struct line *line)
+{
+	struct inputflinger_window shown = window_of(&line->n[1], 7);
+
+	return inputflinger_live_window(&live, line->n[0], &shown, &shown.frame, 1);
+}
+
 /* Shows windows of so many numbers each. */
 static int windows(const struct line *line, size_t numbers)
 {
@@ -257,19 +285,8 @@ static int windows(const struct line *line, size_t numbers)
 	if (line->count % numbers != 1 || count > WINDOWS)
 		fail("no windows", line->word);
 	for (size_t i = 0; i < count; i++) {
-		const uint64_t *n = &line->n[1 + numbers * i];
-
-		frames[i] = (struct inputflinger_rect){(int32_t)n[2], (int32_t)n[3], (int32_t)n[4], (int32_t)n[5]};
-		shown[i].client = *client(n[0]);
-		shown[i].display = (uint8_t)n[1];
-		shown[i].frame = frames[i];
-		shown[i].flags = (uint32_t)n[6];
-		shown[i].rects = 1;
-		if (numbers == 10) {
-			shown[i].owner = (uint32_t)n[7];
-			shown[i].opacity = (uint8_t)n[8];
-			shown[i].occlusion = (uint8_t)n[9];
-		}
+		shown[i] = window_of(&line->n[1 + numbers * i], numbers);
+		frames[i] = shown[i].frame;
 	}
 	return inputflinger_live_windows(&live, line->n[0], shown, count, frames, count, NULL);
 }
@@ -306,6 +323,16 @@ static int doing(const struct line *line)
 		return events(line, 3, (const int32_t[][3]){{ABS, SLOT, a}, {ABS, X, b}, {ABS, Y, c}});
 	if (is(line, "down", 6))
 		return events(line, 4, (const int32_t[][3]){{ABS, SLOT, a}, {ABS, ID, b}, {ABS, X, c}, {ABS, Y, d}});
+	if (is(line, "touch_down", 5))
+		return inputflinger_live_touch_down(&live, line->n[0], (uint8_t)line->n[1], a, b, c);
+	if (is(line, "touch_motion", 5))
+		return inputflinger_live_touch_motion(&live, line->n[0], (uint8_t)line->n[1], a, b, c);
+	if (is(line, "touch_up", 3))
+		return inputflinger_live_touch_up(&live, line->n[0], (uint8_t)line->n[1], a);
+	if (is(line, "touch_cancel", 3))
+		return inputflinger_live_touch_cancel(&live, line->n[0], (uint8_t)line->n[1], a);
+	if (is(line, "touch_frame", 2))
+		return inputflinger_live_touch_frame(&live, line->n[0], (uint8_t)line->n[1]);
 	if (is(line, "unplug", 2))
 		return inputflinger_live_remove_device(&live, line->n[0], (uint8_t)line->n[1]);
 	fail("no call", line->word);
@@ -319,6 +346,10 @@ static int calling(const struct line *line)
 		return windows(line, 7);
 	if (strcmp(line->word, "owned") == 0 && line->count > 0)
 		return windows(line, 10);
+	if (is(line, "window", 8))
+		return window(line);
+	if (is(line, "most", 1))
+		return inputflinger_live_set_most(&live, line->n[0]);
 	if (is(line, "focus", 2))
 		return inputflinger_live_focus(&live, line->n[0], (uint8_t)line->n[1], NULL);
 	if (is(line, "focus", 3))

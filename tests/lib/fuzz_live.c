@@ -17,6 +17,7 @@
 struct seat {
 	struct inputflinger_client client;
 	struct inputflinger_judge judge;
+	struct inputflinger_options options;
 	uint64_t got, taken;
 	bool is_open;
 };
@@ -24,6 +25,8 @@ struct seat {
 struct side {
 	struct inputflinger_live live;
 	struct seat seats[CLIENTS];
+	/* Which fingers are down on device 2, by touch ids from -10 on. */
+	bool fingers[20];
 	uint64_t now;
 	bool is_open;
 };
@@ -106,6 +109,8 @@ static void begin(struct side *side, uint64_t call)
 	side->now = 0;
 	demand(inputflinger_live_add_touch(&side->live, 0, 10, &(struct inputflinger_panel){{0, 999}, {0, 999}, 1000, 1000, 0}, &device)
 		       == INPUTFLINGER_OK && device == 1, "add_touch", call);
+	demand(inputflinger_live_add_touch(&side->live, 0, 16, &(struct inputflinger_panel){{0, 999}, {0, 999}, 1000, 1000, 0}, &device)
+		       == INPUTFLINGER_OK && device == 2, "add_touch", call);
 }
 
 static void end(struct side *side, uint64_t call)
@@ -117,6 +122,7 @@ static void end(struct side *side, uint64_t call)
 		/* A client is of one service: in another one its numbers may be those of a client that is open. */
 		memset(&side->seats[i].client, 0, sizeof side->seats[i].client);
 	}
+	memset(side->fingers, 0, sizeof side->fingers);
 	side->is_open = false;
 }
 
@@ -135,12 +141,34 @@ static void come(struct side *side, uint32_t i, uint64_t call)
 	}
 	status = inputflinger_live_close(&side->live, 0, &s->client);
 	demand(status == (side->is_open ? INPUTFLINGER_NOT_OPEN : INPUTFLINGER_FREE), "close of a stale client", call);
-	status = inputflinger_live_open(&side->live, &s->client);
-	demand(status == (side->is_open ? INPUTFLINGER_OK : INPUTFLINGER_FREE), "open", call);
+	s->options = (struct inputflinger_options){below(1u << 31), rarely() ? 2 : below(3) == 0};
+	status = inputflinger_live_open_with(&side->live, &s->options, &s->client);
+	demand(status == (!side->is_open ? INPUTFLINGER_FREE : s->options.finishes == 2 ? INPUTFLINGER_OUT_OF_RANGE : INPUTFLINGER_OK), "open_with", call);
 	if (status == INPUTFLINGER_OK) {
 		s->is_open = inputflinger_judge_new(&s->judge) == INPUTFLINGER_OK;
 		s->got = s->taken = 0;
 	}
+}
+
+/* A window of a client, whose region is yet to be made. */
+static struct inputflinger_window window_of(struct side *side, uint32_t place)
+{
+	struct inputflinger_window window = {.client = client(side, place), .flags = below(4) == 0 ? below(64) : 0, .rects = below(3)};
+	int32_t left = (int32_t)below(900), top = (int32_t)below(900);
+
+	window.frame = (struct inputflinger_rect){left, top, left + 400, top + 400};
+	window.display = rarely() ? (uint8_t)below(6) : 0;
+	return window;
+}
+
+/* One window moves, or takes another form. */
+static void move(struct side *side)
+{
+	struct inputflinger_window window = window_of(side, below(CLIENTS));
+	struct inputflinger_rect rects[2] = {window.frame, window.frame};
+
+	rects[0].right -= rarely() ? 900 : 100;
+	inputflinger_live_window(&side->live, moment(side), &window, rects, rarely() ? below(3) : window.rects);
 }
 
 static void show(struct side *side)
@@ -151,14 +179,7 @@ static void show(struct side *side)
 	uint64_t named;
 
 	for (size_t i = 0; i < count; i++) {
-		int32_t left = (int32_t)below(900), top = (int32_t)below(900);
-
-		memset(&windows[i], 0, sizeof windows[i]);
-		windows[i].client = client(side, rarely() ? below(CLIENTS) : (uint32_t)i);
-		windows[i].frame = (struct inputflinger_rect){left, top, left + 400, top + 400};
-		windows[i].flags = below(4) == 0 ? below(64) : 0;
-		windows[i].display = rarely() ? (uint8_t)below(6) : 0;
-		windows[i].rects = below(3);
+		windows[i] = window_of(side, rarely() ? below(CLIENTS) : (uint32_t)i);
 		for (uint32_t r = 0; r < windows[i].rects; r++, place++) {
 			rects[place] = windows[i].frame;
 			rects[place].right -= (int32_t)(r * 100);
@@ -186,6 +207,29 @@ static void finger(struct side *side)
 	inputflinger_live_event(&side->live, now, device, 0, rarely() ? 3 : 0, 0);
 }
 
+/* Fingers of device 2, which is handed in no args, by touch ids: which are down is known, so each status is. */
+static void single(struct side *side, uint64_t call)
+{
+	uint64_t now = moment(side);
+	int32_t id = (int32_t)below(20) - 10;
+	bool *down = &side->fingers[id + 10];
+	uint32_t what = below(5);
+	int status;
+
+	status = what == 0   ? inputflinger_live_touch_down(&side->live, now, 2, id, (int32_t)below(1000), (int32_t)below(1000))
+		 : what == 1 ? inputflinger_live_touch_motion(&side->live, now, 2, id, (int32_t)below(1000), (int32_t)below(1000))
+		 : what == 2 ? inputflinger_live_touch_up(&side->live, now, 2, id)
+		 : what == 3 ? inputflinger_live_touch_cancel(&side->live, now, 2, id)
+			     : inputflinger_live_touch_frame(&side->live, now, 2);
+	demand(status != INPUTFLINGER_INCONSISTENT, "what fingers do fits", call);
+	if (status == INPUTFLINGER_OK && what < 4) {
+		demand(what == 0 ? !*down : *down, "a finger that was down went down, or one that was not did more", call);
+		*down = what < 2;
+	} else if (status == INPUTFLINGER_FINGER_DOWN || status == INPUTFLINGER_NO_FINGER) {
+		demand(*down == (status == INPUTFLINGER_FINGER_DOWN), "a refused finger", call);
+	}
+}
+
 static void ready(struct side *side)
 {
 	struct inputflinger_message m;
@@ -194,7 +238,7 @@ static void ready(struct side *side)
 	for (size_t i = 0; i < sizeof m; i++)
 		bytes[i] = (uint8_t)below(256);
 	m.kind = below(4);
-	m.device = (uint8_t)below(3);
+	m.device = (uint8_t)(below(2) ? 1 : 3 * below(2));
 	m.action = (uint8_t)below(8);
 	m.count = (uint8_t)below(4);
 	m.down = (uint8_t)below(2);
@@ -205,13 +249,24 @@ static void ready(struct side *side)
 	inputflinger_live_args(&side->live, moment(side), &m);
 }
 
+/* A client was handed a message: its next one, with what the client was opened with. One that finishes by itself has finished it. */
+static void handed(struct seat *s, const struct inputflinger_message *m, uint64_t call)
+{
+	struct inputflinger_fault fault;
+
+	demand(m->seq == ++s->got, "the messages of a client are numbered from 1 on", call);
+	demand(m->user_data == s->options.user_data, "the messages of a client have its user data", call);
+	demand(inputflinger_judge_step(&s->judge, m, &fault) == INPUTFLINGER_OK, "what a client is told is well-formed", call);
+	if (s->options.finishes == 1)
+		s->taken = s->got;
+}
+
 /* What a client gets is numbered from 1 on, and well-formed. */
 static void get(struct side *side, uint32_t i, uint64_t call)
 {
 	struct inputflinger_client k = client(side, i);
 	struct seat *s = seat_of(side, &k);
 	struct inputflinger_message m;
-	struct inputflinger_fault fault;
 	int status = inputflinger_live_next(&side->live, &k, &m);
 
 	if (!side->is_open) {
@@ -219,8 +274,7 @@ static void get(struct side *side, uint32_t i, uint64_t call)
 	} else if (s == NULL) {
 		demand(status == INPUTFLINGER_NOTHING, "a client that is not open gets nothing", call);
 	} else if (status == INPUTFLINGER_OK) {
-		demand(m.seq == ++s->got, "the messages of a client are numbered from 1 on", call);
-		demand(inputflinger_judge_step(&s->judge, &m, &fault) == INPUTFLINGER_OK, "what a client is told is well-formed", call);
+		handed(s, &m, call);
 	} else {
 		demand(status == INPUTFLINGER_NOTHING, "next", call);
 	}
@@ -231,7 +285,6 @@ static void get_any(struct side *side, uint64_t call)
 {
 	struct inputflinger_client k;
 	struct inputflinger_message m;
-	struct inputflinger_fault fault;
 	uint64_t mask = 0;
 	bool last;
 	int status;
@@ -247,8 +300,7 @@ static void get_any(struct side *side, uint64_t call)
 
 		demand(s != NULL, "next_any of an open client", call);
 		demand(mask >> (k.channel - 1) & 1, "next_any of a client that waits", call);
-		demand(m.seq == ++s->got, "the messages of a client are numbered from 1 on, of any client", call);
-		demand(inputflinger_judge_step(&s->judge, &m, &fault) == INPUTFLINGER_OK, "what any client is told is well-formed", call);
+		handed(s, &m, call);
 	}
 }
 
@@ -308,6 +360,15 @@ static void add_keys(struct side *side)
 	inputflinger_live_add_keys(&side->live, (uint8_t)below(5), text, len, &device, &line);
 }
 
+/* A panel that is plugged in anew has no finger. */
+static void unplug(struct side *side, uint8_t device)
+{
+	int status = inputflinger_live_remove_device(&side->live, moment(side), device);
+
+	if (device == 2 && (status == INPUTFLINGER_OK || status == INPUTFLINGER_INCONSISTENT || status == INPUTFLINGER_WAITS))
+		memset(side->fingers, 0, sizeof side->fingers);
+}
+
 /* Whatever can be asked, and the calls that are made rarely. */
 static void ask(struct side *side, uint32_t i)
 {
@@ -322,6 +383,11 @@ static void ask(struct side *side, uint32_t i)
 	inputflinger_live_clock(&side->live, &number);
 	inputflinger_live_is_open(&side->live, &k, &is);
 	inputflinger_live_is_responsive(&side->live, &k, &is);
+	inputflinger_live_is_choked(&side->live, &k, &is);
+	if (below(16) == 0)
+		inputflinger_live_set_most(&side->live, below(2) == 0 ? 10000 : below(12));
+	inputflinger_live_user_data(&side->live, &k, &number);
+	inputflinger_live_window_at(&side->live, (uint8_t)below(6), (int32_t)below(1500) - 100, (int32_t)below(1500) - 100, &told);
 	inputflinger_live_client_at(&side->live, below(70), &told);
 	inputflinger_live_focused(&side->live, (uint8_t)below(6), &told);
 	inputflinger_live_key_target(&side->live, &told);
@@ -329,7 +395,7 @@ static void ask(struct side *side, uint32_t i)
 	inputflinger_live_focus(&side->live, moment(side), (uint8_t)below(5), below(4) == 0 ? NULL : &k);
 	inputflinger_live_pilfer(&side->live, moment(side), &k, (uint8_t)below(10));
 	if (rarely())
-		inputflinger_live_remove_device(&side->live, moment(side), (uint8_t)below(10));
+		unplug(side, (uint8_t)below(10));
 	if (rarely())
 		inputflinger_live_add_touch(&side->live, (uint8_t)below(5), (uint8_t)below(18),
 					    &(struct inputflinger_panel){{0, 999}, {(int32_t)below(2000), 999}, 1000, 1000, (uint8_t)below(5)}, &device);
@@ -355,8 +421,12 @@ int main(int count, char **words)
 			come(side, i, call);
 		else if (what < 6)
 			show(side);
-		else if (what < 20)
+		else if (what < 9)
+			move(side);
+		else if (what < 15)
 			finger(side);
+		else if (what < 20)
+			single(side, call);
 		else if (what < 24)
 			ready(side);
 		else if (what < 40)

@@ -89,14 +89,15 @@ static void other_sizes(void)
 	for (int open = 0; open < 2; open++) {
 		int wanted = open ? INPUTFLINGER_OUT_OF_RANGE : INPUTFLINGER_FREE;
 
-		CHECK(inputflinger_judge_step_sized(&judge, &m, sizeof m - 1, &fault, sizeof fault) == wanted);
+		CHECK(inputflinger_judge_step_sized(&judge, &m, MESSAGE_FIRST - 1, &fault, sizeof fault) == wanted);
 		CHECK(inputflinger_judge_step_sized(&judge, &m, sizeof m, &fault, sizeof fault - 1) == wanted);
 		CHECK(inputflinger_judge_state_sized(&judge, &state, sizeof state - 1) == wanted);
 		CHECK(inputflinger_live_add_touch_sized(&live, 0, 1, &panel, sizeof panel - 1, &device) == wanted);
-		CHECK(inputflinger_live_args_sized(&live, 0, &m, sizeof m - 1) == wanted);
+		CHECK(inputflinger_live_args_sized(&live, 0, &m, MESSAGE_FIRST - 1) == wanted);
 		CHECK(inputflinger_live_windows_sized(&live, 0, &window, WINDOW_FIRST - 1, 1, NULL, 0, NULL) == wanted);
-		CHECK(inputflinger_live_next_sized(&live, &client, &m, sizeof m - 1) == wanted);
-		CHECK(inputflinger_live_next_any_sized(&live, &client, &m, sizeof m - 1, &last) == wanted && last);
+		CHECK(inputflinger_live_window_sized(&live, 0, &window, WINDOW_FIRST - 1, NULL, 0) == wanted);
+		CHECK(inputflinger_live_next_sized(&live, &client, &m, MESSAGE_FIRST - 1) == wanted);
+		CHECK(inputflinger_live_next_any_sized(&live, &client, &m, MESSAGE_FIRST - 1, &last) == wanted && last);
 		CHECK(fault.place == 77 && state.focus == 77 && device == 77 && m.count == 1);
 		OK(open ? inputflinger_judge_free(&judge) : inputflinger_judge_new(&judge));
 		OK(open ? inputflinger_live_free(&live) : inputflinger_live_new(&live, 1000000, NULL));
@@ -127,6 +128,10 @@ static void later_live(void)
 	CHECK(inputflinger_live_windows_sized(&live, 0, &windows[0].now, sizeof *windows, 2, rects, 2, &named) == INPUTFLINGER_OUT_OF_RANGE);
 	windows[1].more = 0;
 	OK(inputflinger_live_windows_sized(&live, 0, &windows[0].now, sizeof *windows, 2, rects, 2, &named));
+	windows[0].more = 1;
+	CHECK(inputflinger_live_window_sized(&live, 0, &windows[0].now, sizeof *windows, rects, 1) == INPUTFLINGER_OUT_OF_RANGE);
+	windows[0].more = 0;
+	OK(inputflinger_live_window_sized(&live, 0, &windows[0].now, sizeof *windows, rects, 1));
 	m.now.pointers[0].x = 600;
 	OK(inputflinger_live_args_sized(&live, 1000, &m.now, sizeof m));
 	m.now.action = INPUTFLINGER_MOVE;
@@ -191,12 +196,12 @@ static void texts(void)
 {
 	char version[32];
 
-	for (int a = INPUTFLINGER_OK; a <= INPUTFLINGER_NO_THREADS; a++) {
+	for (int a = INPUTFLINGER_OK; a <= INPUTFLINGER_TOO_MANY_FINGERS; a++) {
 		CHECK(strlen(inputflinger_status_text(a)) > 10 && strcmp(inputflinger_status_text(a), "unknown status") != 0);
 		for (int b = INPUTFLINGER_OK; b < a; b++)
 			CHECK(strcmp(inputflinger_status_text(a), inputflinger_status_text(b)) != 0);
 	}
-	CHECK(strcmp(inputflinger_status_text(INPUTFLINGER_NO_THREADS + 1), "unknown status") == 0);
+	CHECK(strcmp(inputflinger_status_text(INPUTFLINGER_TOO_MANY_FINGERS + 1), "unknown status") == 0);
 	CHECK(strcmp(inputflinger_status_text(-1), "unknown status") == 0);
 	CHECK(strcmp(inputflinger_status_text(INPUTFLINGER_NO_MEMORY), "out of memory") == 0);
 	snprintf(version, sizeof version, "%d.%d.%d", INPUTFLINGER_VERSION_MAJOR, INPUTFLINGER_VERSION_MINOR, INPUTFLINGER_VERSION_MICRO);

@@ -86,6 +86,7 @@ static void free_handles(void)
 {
 	live_t live = {0};
 	client_t client = {1, 1};
+	struct inputflinger_window w = window(client, 0);
 	message_t m = {0};
 	uint64_t number = 7;
 	uint32_t ids = 7;
@@ -98,12 +99,20 @@ static void free_handles(void)
 	CHECK(inputflinger_live_remove_device(&live, 0, 1) == INPUTFLINGER_FREE);
 	CHECK(inputflinger_live_event(&live, 0, 1, 0, 0, 0) == INPUTFLINGER_FREE);
 	CHECK(inputflinger_live_reserve(&live, 1) == INPUTFLINGER_FREE);
+	CHECK(inputflinger_live_set_most(&live, 1) == INPUTFLINGER_FREE);
+	CHECK(inputflinger_live_is_choked(&live, &client, &told) == INPUTFLINGER_FREE && told);
+	CHECK(inputflinger_live_touch_down(&live, 0, 1, 1, 0, 0) == INPUTFLINGER_FREE);
+	CHECK(inputflinger_live_touch_motion(&live, 0, 1, 1, 0, 0) == INPUTFLINGER_FREE);
+	CHECK(inputflinger_live_touch_up(&live, 0, 1, 1) == INPUTFLINGER_FREE);
+	CHECK(inputflinger_live_touch_cancel(&live, 0, 1, 1) == INPUTFLINGER_FREE);
+	CHECK(inputflinger_live_touch_frame(&live, 0, 1) == INPUTFLINGER_FREE);
 	CHECK(inputflinger_live_args(&live, 0, &m) == INPUTFLINGER_FREE);
 	CHECK(inputflinger_live_open(&live, &client) == INPUTFLINGER_FREE);
 	CHECK(inputflinger_live_close(&live, 0, &client) == INPUTFLINGER_FREE);
 	CHECK(inputflinger_live_is_open(&live, &client, &told) == INPUTFLINGER_FREE && told);
 	CHECK(inputflinger_live_client_at(&live, 1, &client) == INPUTFLINGER_FREE);
 	CHECK(inputflinger_live_windows(&live, 0, NULL, 0, NULL, 0, &number) == INPUTFLINGER_FREE && number == 7);
+	CHECK(inputflinger_live_window(&live, 0, &w, NULL, 0) == INPUTFLINGER_FREE);
 	CHECK(inputflinger_live_focus(&live, 0, 0, NULL) == INPUTFLINGER_FREE);
 	CHECK(inputflinger_live_pilfer(&live, 0, &client, 1) == INPUTFLINGER_FREE);
 	CHECK(inputflinger_live_waiting(&live, &number) == INPUTFLINGER_FREE && number == 7);
@@ -125,6 +134,7 @@ static void nulls(void)
 {
 	live_t live = {0};
 	client_t client = {1, 1};
+	struct inputflinger_window w = window(client, 0);
 	message_t m = {0};
 	uint64_t number;
 	uint32_t ids;
@@ -142,6 +152,11 @@ static void nulls(void)
 	CHECK(inputflinger_live_remove_device(NULL, 0, 1) == INPUTFLINGER_NULL);
 	CHECK(inputflinger_live_event(NULL, 0, 1, 0, 0, 0) == INPUTFLINGER_NULL);
 	CHECK(inputflinger_live_reserve(NULL, 1) == INPUTFLINGER_NULL);
+	CHECK(inputflinger_live_touch_down(NULL, 0, 1, 1, 0, 0) == INPUTFLINGER_NULL);
+	CHECK(inputflinger_live_touch_motion(NULL, 0, 1, 1, 0, 0) == INPUTFLINGER_NULL);
+	CHECK(inputflinger_live_touch_up(NULL, 0, 1, 1) == INPUTFLINGER_NULL);
+	CHECK(inputflinger_live_touch_cancel(NULL, 0, 1, 1) == INPUTFLINGER_NULL);
+	CHECK(inputflinger_live_touch_frame(NULL, 0, 1) == INPUTFLINGER_NULL);
 	CHECK(inputflinger_live_args(NULL, 0, &m) == INPUTFLINGER_NULL);
 	CHECK(inputflinger_live_args(&live, 0, NULL) == INPUTFLINGER_NULL);
 	CHECK(inputflinger_live_open(NULL, &client) == INPUTFLINGER_NULL);
@@ -156,6 +171,9 @@ static void nulls(void)
 	CHECK(inputflinger_live_windows(NULL, 0, NULL, 0, NULL, 0, NULL) == INPUTFLINGER_NULL);
 	CHECK(inputflinger_live_windows(&live, 0, NULL, 1, NULL, 0, NULL) == INPUTFLINGER_NULL);
 	CHECK(inputflinger_live_windows(&live, 0, NULL, 0, NULL, 1, NULL) == INPUTFLINGER_NULL);
+	CHECK(inputflinger_live_window(NULL, 0, &w, NULL, 0) == INPUTFLINGER_NULL);
+	CHECK(inputflinger_live_window(&live, 0, NULL, NULL, 0) == INPUTFLINGER_NULL);
+	CHECK(inputflinger_live_window(&live, 0, &w, NULL, 1) == INPUTFLINGER_NULL);
 	CHECK(inputflinger_live_focus(NULL, 0, 0, &client) == INPUTFLINGER_NULL);
 	CHECK(inputflinger_live_pilfer(NULL, 0, &client, 1) == INPUTFLINGER_NULL);
 	CHECK(inputflinger_live_pilfer(&live, 0, NULL, 1) == INPUTFLINGER_NULL);
@@ -172,6 +190,10 @@ static void nulls(void)
 	CHECK(inputflinger_live_finish(&live, 0, NULL, 1) == INPUTFLINGER_NULL);
 	CHECK(inputflinger_live_finish_through(NULL, 0, &client, 1) == INPUTFLINGER_NULL);
 	CHECK(inputflinger_live_finish_through(&live, 0, NULL, 1) == INPUTFLINGER_NULL);
+	CHECK(inputflinger_live_set_most(NULL, 1) == INPUTFLINGER_NULL);
+	CHECK(inputflinger_live_is_choked(NULL, &client, &told) == INPUTFLINGER_NULL);
+	CHECK(inputflinger_live_is_choked(&live, NULL, &told) == INPUTFLINGER_NULL);
+	CHECK(inputflinger_live_is_choked(&live, &client, NULL) == INPUTFLINGER_NULL);
 	CHECK(inputflinger_live_due(NULL, &number) == INPUTFLINGER_NULL);
 	CHECK(inputflinger_live_due(&live, NULL) == INPUTFLINGER_NULL);
 	CHECK(inputflinger_live_advance(NULL, 0, &number) == INPUTFLINGER_NULL);
@@ -534,6 +556,53 @@ static void finished_through(void)
 	OK(inputflinger_live_free(&live));
 }
 
+/* Sixteen fingers are down at a time, each by a touch id of its own; what is refused changes nothing. */
+static void single_fingers(void)
+{
+	live_t live = {0};
+	client_t client = {0};
+	struct inputflinger_window one;
+	uint64_t number = 77;
+	uint8_t device = 0;
+
+	OK(inputflinger_live_new(&live, LIMIT, NULL));
+	OK(inputflinger_live_add_touch(&live, 0, 16, &panel, &device));
+	OK(inputflinger_live_open(&live, &client));
+	one = window(client, 0);
+	OK(show(&live, &one, 1, NULL));
+	CHECK(inputflinger_live_touch_down(&live, LATEST + 1, device, 1, 0, 0) == INPUTFLINGER_OUT_OF_RANGE);
+	CHECK(inputflinger_live_touch_motion(&live, LATEST + 1, device, 1, 0, 0) == INPUTFLINGER_OUT_OF_RANGE);
+	CHECK(inputflinger_live_touch_up(&live, LATEST + 1, device, 1) == INPUTFLINGER_OUT_OF_RANGE);
+	CHECK(inputflinger_live_touch_cancel(&live, LATEST + 1, device, 1) == INPUTFLINGER_OUT_OF_RANGE);
+	CHECK(inputflinger_live_touch_frame(&live, LATEST + 1, device) == INPUTFLINGER_OUT_OF_RANGE);
+	CHECK(inputflinger_live_touch_frame(&live, 0, 0) == INPUTFLINGER_OUT_OF_RANGE);
+	CHECK(inputflinger_live_touch_frame(&live, 0, 2) == INPUTFLINGER_NO_DEVICE);
+	CHECK(inputflinger_live_touch_up(&live, 0, 2, 1) == INPUTFLINGER_NO_DEVICE);
+	for (int32_t i = 0; i < 16; i++)
+		OK(inputflinger_live_touch_down(&live, 1000, device, INT32_MIN + 100 * i, 10 * i, i));
+	CHECK(inputflinger_live_touch_down(&live, 2000, device, 1, 0, 0) == INPUTFLINGER_TOO_MANY_FINGERS);
+	CHECK(inputflinger_live_touch_down(&live, 2000, device, INT32_MIN, 0, 0) == INPUTFLINGER_FINGER_DOWN);
+	CHECK(inputflinger_live_touch_motion(&live, 2000, device, INT32_MAX, 0, 0) == INPUTFLINGER_NO_FINGER);
+	CHECK(inputflinger_live_touch_up(&live, 2000, device, 1) == INPUTFLINGER_NO_FINGER);
+	CHECK(inputflinger_live_touch_cancel(&live, 2000, device, 1) == INPUTFLINGER_NO_FINGER);
+	OK(inputflinger_live_clock(&live, &number));
+	CHECK(number == 2000);
+	CHECK(inputflinger_live_next(&live, &client, &(message_t){0}) == INPUTFLINGER_NOTHING);
+	OK(inputflinger_live_touch_frame(&live, 1000, device));
+	for (uint64_t i = 1; i <= 16; i++) {
+		message_t m = next(&live, client);
+
+		CHECK(m.seq == i && m.count == i && m.action == (i == 1 ? INPUTFLINGER_DOWN : INPUTFLINGER_POINTER_DOWN));
+		CHECK(m.pointers[i - 1].x == 10 * ((int32_t)i - 1) && m.pointers[i - 1].y == (int32_t)i - 1);
+	}
+	OK(inputflinger_live_touch_up(&live, 2000, device, INT32_MIN + 100));
+	OK(inputflinger_live_touch_down(&live, 2000, device, 1, 500, 600));
+	OK(inputflinger_live_touch_frame(&live, 2000, device));
+	CHECK(next(&live, client).action == INPUTFLINGER_POINTER_UP);
+	CHECK(next(&live, client).action == INPUTFLINGER_POINTER_DOWN);
+	OK(inputflinger_live_free(&live));
+}
+
 /* The next message of any client has this client, this seq and this kind. */
 static void next_any(live_t *live, client_t wanted, uint64_t seq, uint32_t kind, bool wanted_last)
 {
@@ -704,6 +773,179 @@ static void example(void)
 	OK(inputflinger_live_free(&live));
 }
 
+/* Sends a finger down at a point and up again, and reads what a client is sent of the down: a y coordinate, or -1. */
+static int32_t touched(live_t *live, uint64_t now, const client_t *client, int32_t y)
+{
+	message_t down = motion(1, INPUTFLINGER_DOWN, 0, 0x1, 500, y), up = motion(1, INPUTFLINGER_UP, 0, 0x1, 500, y), told;
+	int32_t at = -1;
+
+	OK(inputflinger_live_args(live, now, &down));
+	OK(inputflinger_live_args(live, now, &up));
+	while (inputflinger_live_next(live, client, &told) == INPUTFLINGER_OK)
+		if (told.kind == INPUTFLINGER_MOTION && told.action == INPUTFLINGER_DOWN)
+			at = told.pointers[0].y;
+	return at;
+}
+
+static void one_window(void)
+{
+	live_t live = {0};
+	client_t a = {0}, b = {0}, gone = {9, 3};
+	struct inputflinger_window two[2], one;
+	struct inputflinger_rect rects[65];
+	uint64_t clock = 77;
+	uint8_t device = 0;
+
+	OK(inputflinger_live_new(&live, LIMIT, NULL));
+	OK(inputflinger_live_add_touch(&live, 0, 10, &panel, &device));
+	OK(inputflinger_live_open(&live, &a));
+	OK(inputflinger_live_open(&live, &b));
+	one = window(a, 0);
+	CHECK(inputflinger_live_window(&live, 9000, &one, &one.frame, 1) == INPUTFLINGER_NOT_SHOWN);
+	two[0] = window(a, 0);
+	two[1] = window(b, 0);
+	OK(show(&live, two, 2, NULL));
+	CHECK(touched(&live, 1000, &a, 600) == 600);
+	/* The front window moves to the lower half, and is still in front. */
+	one.frame.top = 1200;
+	OK(inputflinger_live_window(&live, 2000, &one, &one.frame, 1));
+	CHECK(touched(&live, 2000, &b, 600) == 600);
+	CHECK(touched(&live, 2000, &a, 1800) == 600);
+	/* Refusals leave the windows and the clock. */
+	for (size_t i = 0; i < 65; i++)
+		rects[i] = one.frame;
+	one.frame.top = 0;
+	one.display = 4;
+	CHECK(inputflinger_live_window(&live, 9000, &one, rects, 1) == INPUTFLINGER_OUT_OF_RANGE);
+	one.display = 0;
+	one.opacity = 101;
+	CHECK(inputflinger_live_window(&live, 9000, &one, rects, 1) == INPUTFLINGER_OUT_OF_RANGE);
+	one.opacity = 0;
+	one.occlusion = 3;
+	CHECK(inputflinger_live_window(&live, 9000, &one, rects, 1) == INPUTFLINGER_OUT_OF_RANGE);
+	one.occlusion = 0;
+	CHECK(inputflinger_live_window(&live, 9000, &one, rects, 0) == INPUTFLINGER_OUT_OF_RANGE);
+	one.rects = 65;
+	CHECK(inputflinger_live_window(&live, 9000, &one, rects, 65) == INPUTFLINGER_OUT_OF_RANGE);
+	one.rects = 1;
+	CHECK(inputflinger_live_window(&live, LATEST + 1, &one, rects, 1) == INPUTFLINGER_OUT_OF_RANGE);
+	one.client = gone;
+	CHECK(inputflinger_live_window(&live, 9000, &one, rects, 1) == INPUTFLINGER_NOT_OPEN);
+	OK(inputflinger_live_clock(&live, &clock));
+	CHECK(clock == 2000);
+	CHECK(touched(&live, 3000, &a, 1800) == 600);
+	/* A surplus rectangle is ignored, and a window with 64 is taken. */
+	one = window(b, 0);
+	OK(inputflinger_live_window(&live, 4000, &one, rects, 2));
+	one.rects = 64;
+	OK(inputflinger_live_window(&live, 4000, &one, rects, 64));
+	CHECK(touched(&live, 4000, &b, 600) == -1);
+	OK(inputflinger_live_free(&live));
+}
+
+static bool choked(const live_t *live, client_t client)
+{
+	bool is = false;
+
+	OK(inputflinger_live_is_choked(live, &client, &is));
+	return is;
+}
+
+/* A client that leaves more than two messages unreceived, beside one that has the display below its window. */
+static void begin_choking(live_t *live, client_t *a, client_t *b)
+{
+	message_t m = motion(1, INPUTFLINGER_DOWN, 0, 0x1, 500, 600);
+	struct inputflinger_window two[2];
+	uint8_t device = 0;
+
+	OK(inputflinger_live_new(live, LIMIT, NULL));
+	OK(inputflinger_live_add_touch(live, 0, 10, &panel, &device));
+	OK(inputflinger_live_open(live, a));
+	OK(inputflinger_live_open(live, b));
+	two[0] = window(*a, 0);
+	two[1] = window(*b, 0);
+	OK(show(live, two, 2, NULL));
+	OK(inputflinger_live_focus(live, 0, 0, a));
+	OK(inputflinger_live_set_most(live, 2));
+	OK(inputflinger_live_args(live, 1000, &m));
+	m.action = INPUTFLINGER_MOVE;
+	OK(inputflinger_live_args(live, 1000, &m));
+}
+
+static void choking(void)
+{
+	live_t live = {0};
+	client_t a = {0}, b = {0}, gone = {9, 3};
+	message_t m = motion(1, INPUTFLINGER_UP, 0, 0x1, 500, 600);
+	struct inputflinger_window one;
+	uint64_t mask = 77, now = 77;
+	uint32_t ids = 77;
+
+	begin_choking(&live, &a, &b);
+	CHECK(!choked(&live, a) && !choked(&live, b) && !choked(&live, gone));
+	OK(inputflinger_live_due(&live, &now));
+	CHECK(now == 1000);
+	OK(inputflinger_live_advance(&live, 2000, &mask));
+	CHECK(mask == 0x1 && choked(&live, a) && !choked(&live, b));
+	OK(inputflinger_live_holds(&live, &a, 1, &ids));
+	CHECK(ids == 0 && inputflinger_live_focused(&live, 0, &gone) == INPUTFLINGER_NOTHING);
+	OK(inputflinger_live_advance(&live, 2000, &mask));
+	CHECK(mask == 0);
+	/* It is sent nothing more, and a wall stands for its window, which is kept as the program wants it. */
+	OK(inputflinger_live_args(&live, 3000, &m));
+	CHECK(touched(&live, 3000, &b, 600) == -1);
+	one = window(a, 0);
+	one.frame.top = 1200;
+	OK(inputflinger_live_window(&live, 3000, &one, &one.frame, 1));
+	OK(inputflinger_live_focus(&live, 3000, 0, &a));
+	CHECK(touched(&live, 3000, &b, 600) == 600 && touched(&live, 3000, &b, 1800) == -1);
+	/* A CANCEL and the loss of the focus were the last that it was sent. */
+	CHECK(next(&live, a).focus == 1 && next(&live, a).action == INPUTFLINGER_DOWN && next(&live, a).action == INPUTFLINGER_MOVE);
+	CHECK(next(&live, a).action == INPUTFLINGER_CANCEL);
+	m = next(&live, a);
+	CHECK(m.seq == 5 && m.kind == INPUTFLINGER_FOCUS && m.focus == 0 && m.moment_us == 2000);
+	CHECK(inputflinger_live_next(&live, &a, &m) == INPUTFLINGER_NOTHING);
+	/* It is released once it has finished all of them. */
+	OK(inputflinger_live_finish_through(&live, 4000, &a, 4));
+	OK(inputflinger_live_advance(&live, 4000, &mask));
+	CHECK(mask == 0 && choked(&live, a));
+	OK(inputflinger_live_finish_through(&live, 4000, &a, 5));
+	OK(inputflinger_live_due(&live, &now));
+	CHECK(now == 4000 && choked(&live, a));
+	OK(inputflinger_live_advance(&live, 5000, &mask));
+	m = next(&live, a);
+	CHECK(mask == 0 && !choked(&live, a) && m.seq == 6 && m.kind == INPUTFLINGER_FOCUS && m.focus == 1 && m.moment_us == 5000);
+	CHECK(touched(&live, 6000, &a, 1800) == 600);
+	OK(inputflinger_live_free(&live));
+}
+
+/* A choked client is closed: its wall goes, and the next one on its channel is not choked. Any number is a most. */
+static void choked_and_closed(void)
+{
+	live_t live = {0};
+	client_t a = {0}, b = {0}, later = {0};
+	message_t m = motion(1, INPUTFLINGER_UP, 0, 0x1, 500, 600);
+	uint64_t mask = 77, now = 77;
+
+	begin_choking(&live, &a, &b);
+	OK(inputflinger_live_args(&live, 2000, &m));
+	CHECK(choked(&live, a));
+	OK(inputflinger_live_close(&live, 3000, &a));
+	OK(inputflinger_live_due(&live, &now));
+	CHECK(now == 3000 && !choked(&live, a));
+	CHECK(touched(&live, 4000, &b, 600) == 600);
+	OK(inputflinger_live_open(&live, &later));
+	same_client(later, 1, 3);
+	CHECK(!choked(&live, later));
+	OK(inputflinger_live_set_most(&live, UINT64_MAX));
+	OK(inputflinger_live_advance(&live, 4000, &mask));
+	CHECK(mask == 0 && !choked(&live, later));
+	OK(inputflinger_live_set_most(&live, 0));
+	OK(inputflinger_live_advance(&live, 4000, &mask));
+	CHECK(mask == 0 && !choked(&live, b));
+	OK(inputflinger_live_free(&live));
+}
+
 int main(int count, char **words)
 {
 	if (count > 1 && strcmp(words[1], "example") == 0) {
@@ -716,9 +958,13 @@ int main(int count, char **words)
 	layouts();
 	clients();
 	windows();
+	one_window();
+	choking();
+	choked_and_closed();
 	fingers();
 	keys_and_time();
 	finished_through();
+	single_fingers();
 	in_order();
 	after_a_finish();
 	closed_under_a_finger();

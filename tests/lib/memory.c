@@ -126,6 +126,51 @@ static void args(struct life *life, const struct inputflinger_message *m)
 	given(life, status);
 }
 
+/* What a finger of device 3 does, by its touch id, or its frame. */
+static int touch(struct life *life, char what, int32_t id)
+{
+	switch (what) {
+	case 'd':
+		return inputflinger_live_touch_down(&life->live, life->now, 3, id, 100, 200);
+	case 'm':
+		return inputflinger_live_touch_motion(&life->live, life->now, 3, id, 300, 400);
+	case 'u':
+		return inputflinger_live_touch_up(&life->live, life->now, 3, id);
+	case 'c':
+		return inputflinger_live_touch_cancel(&life->live, life->now, 3, id);
+	}
+	return inputflinger_live_touch_frame(&life->live, life->now, 3);
+}
+
+static void finger(struct life *life, char what, int32_t id)
+{
+	int status;
+
+	if (reserves)
+		AGAIN(inputflinger_live_reserve(&life->live, 1));
+	status = touch(life, what, id);
+	if (status == INPUTFLINGER_NO_MEMORY) {
+		refused++;
+		status = touch(life, what, id);
+	}
+	CHECK(!reserves || status == INPUTFLINGER_OK);
+	given(life, status);
+}
+
+/* Two fingers go down in one frame and one moves; then one goes up, and the other is cancelled. */
+static void fingers(struct life *life)
+{
+	finger(life, 'd', 7);
+	finger(life, 'd', -3);
+	finger(life, 'f', 0);
+	finger(life, 'm', -3);
+	finger(life, 'f', 0);
+	finger(life, 'u', 7);
+	finger(life, 'f', 0);
+	finger(life, 'c', -3);
+	CHECK(touch(life, 'c', -3) == INPUTFLINGER_NO_FINGER && touch(life, 'u', 7) == INPUTFLINGER_NO_FINGER);
+}
+
 static void remove_device(struct life *life, uint8_t device)
 {
 	int status = inputflinger_live_remove_device(&life->live, life->now, device);
@@ -176,6 +221,7 @@ static void begin(struct life *life, struct inputflinger_client *spy, struct inp
 		struct inputflinger_window now;
 		uint64_t more;
 	} longer[2] = {{.more = 0}, {.more = 0}};
+	static const struct inputflinger_options options = {3, 0};
 	uint64_t line = 77;
 	uint8_t device = 77;
 
@@ -185,8 +231,10 @@ static void begin(struct life *life, struct inputflinger_client *spy, struct inp
 	CHECK(device == 1);
 	AGAIN(inputflinger_live_add_keys(&life->live, 0, layout, sizeof layout - 1, &device, &line));
 	CHECK(device == 2 && line == 77);
+	AGAIN(inputflinger_live_add_touch(&life->live, 0, 16, &panel, &device));
+	CHECK(device == 3);
 	AGAIN(inputflinger_live_open(&life->live, spy));
-	AGAIN(inputflinger_live_open(&life->live, behind));
+	AGAIN(inputflinger_live_open_with(&life->live, &options, behind));
 	windows[0].client = *spy;
 	windows[1].client = *behind;
 	AGAIN(inputflinger_live_windows(&life->live, 0, windows, 2, both, 2, NULL));
@@ -194,7 +242,21 @@ static void begin(struct life *life, struct inputflinger_client *spy, struct inp
 	longer[0].now = windows[0];
 	longer[1].now = windows[1];
 	AGAIN(inputflinger_live_windows_sized(&life->live, 0, &longer[0].now, sizeof *longer, 2, both, 2, NULL));
+	AGAIN(inputflinger_live_window(&life->live, 0, &windows[1], both, 1));
 	AGAIN(inputflinger_live_focus(&life->live, 0, 0, behind));
+}
+
+/* The spy receives nothing, and has three messages: a wall takes the place of its window. */
+static void choke(struct life *life, const struct inputflinger_client *spy)
+{
+	uint64_t mask;
+	bool is;
+
+	AGAIN(inputflinger_live_set_most(&life->live, 2));
+	CHECK(inputflinger_live_is_choked(&life->live, spy, &is) == INPUTFLINGER_OK && !is);
+	AGAIN(inputflinger_live_advance(&life->live, life->now, &mask));
+	CHECK(inputflinger_live_is_choked(&life->live, spy, &is) == INPUTFLINGER_OK && is && mask == 1);
+	AGAIN(inputflinger_live_set_most(&life->live, 10000));
 }
 
 static void live_on(struct life *life)
@@ -220,12 +282,15 @@ static void live_on(struct life *life)
 	event(life, 1, 3, 57, -1);
 	event(life, 1, 0, 0, 0);
 	args(life, &m);
+	choke(life, &spy);
 	life->now = 700000;
 	AGAIN(inputflinger_live_advance(&life->live, life->now, &mask));
 	get(life, &behind);
 	life->now = 1200000;
 	AGAIN(inputflinger_live_advance(&life->live, life->now, &mask));
 	CHECK(mask == 1);
+	fingers(life);
+	get(life, &behind);
 	AGAIN(inputflinger_live_close(&life->live, life->now, &spy));
 	AGAIN(inputflinger_live_open(&life->live, &late));
 	remove_device(life, 2);

@@ -32,6 +32,7 @@ AT(inputflinger_message, count, 39);
 AT(inputflinger_message, down, 40);
 AT(inputflinger_message, focus, 41);
 AT(inputflinger_message, pointers, 44);
+AT(inputflinger_message, user_data, 240);
 AT(inputflinger_fault, place, 0);
 AT(inputflinger_fault, next_repeat, 8);
 AT(inputflinger_fault, held, 16);
@@ -67,6 +68,8 @@ AT(inputflinger_panel, width, 16);
 AT(inputflinger_panel, height, 18);
 AT(inputflinger_panel, rotation, 20);
 AT(inputflinger_displays, of_device, 0);
+AT(inputflinger_options, user_data, 0);
+AT(inputflinger_options, finishes, 8);
 AT(inputflinger_ran, out_len, 0);
 AT(inputflinger_ran, err_len, 8);
 AT(inputflinger_ran, status, 16);
@@ -74,7 +77,7 @@ AT(inputflinger_file, bytes, 0);
 AT(inputflinger_file, len, 8);
 _Static_assert(sizeof(struct inputflinger_judge) == 16, "a judge");
 _Static_assert(sizeof(struct inputflinger_pointer) == 12, "a pointer");
-_Static_assert(sizeof(struct inputflinger_message) == 240, "a message");
+_Static_assert(sizeof(struct inputflinger_message) == 248, "a message");
 _Static_assert(sizeof(struct inputflinger_fault) == 32, "a fault");
 _Static_assert(sizeof(struct inputflinger_state) == 36, "a state");
 _Static_assert(sizeof(struct inputflinger_key) == 4, "a key");
@@ -86,6 +89,7 @@ _Static_assert(sizeof(struct inputflinger_axis) == 8, "an axis");
 _Static_assert(sizeof(struct inputflinger_panel) == 24, "a panel");
 _Static_assert(sizeof(struct inputflinger_displays) == 8, "displays");
 _Static_assert(sizeof(struct inputflinger_ran) == 24, "what a run came to");
+_Static_assert(sizeof(struct inputflinger_options) == 16, "options");
 
 int main(void)
 {
@@ -94,7 +98,7 @@ int main(void)
 		sizeof(struct inputflinger_fault), sizeof(struct inputflinger_state), sizeof(struct inputflinger_key), sizeof(struct inputflinger_live),
 		sizeof(struct inputflinger_client), sizeof(struct inputflinger_rect), sizeof(struct inputflinger_window),
 		sizeof(struct inputflinger_axis), sizeof(struct inputflinger_panel), sizeof(struct inputflinger_displays),
-		sizeof(struct inputflinger_ran), 0,
+		sizeof(struct inputflinger_ran), sizeof(struct inputflinger_options), 0,
 	};
 
 	for (uint32_t i = 0; i < sizeof sizes / sizeof *sizes; i++) {

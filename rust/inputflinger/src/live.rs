@@ -31,6 +31,15 @@ impl Client {
     }
 }
 
+/// What a client is opened with.
+#[derive(Clone, Copy, Debug, Default, PartialEq, Eq)]
+pub struct Options {
+    /// Any number of yours. Each message of the client has it.
+    pub user_data: u64,
+    /// Whether each message counts as finished as soon as the client received it.
+    pub finishes: bool,
+}
+
 /// A rectangle of display pixels: the points with `left <= x < right` and `top <= y < bottom`.
 #[derive(Clone, Copy, Debug, Default, PartialEq, Eq)]
 pub struct Rect {
@@ -109,6 +118,22 @@ pub struct Window<'a> {
     pub occlusion: Occlusion,
 }
 
+impl Window<'_> {
+    fn plain(&self) -> Result<sys::Window, LiveError> {
+        Ok(sys::Window {
+            client: self.client.plain,
+            frame: self.frame.plain(),
+            flags: self.flags,
+            rects: u32::try_from(self.region.len()).map_err(|_| LiveError::OutOfRange)?,
+            display: self.display,
+            unused: [0; 7],
+            owner: self.owner,
+            opacity: self.opacity,
+            occlusion: self.occlusion as u8,
+        })
+    }
+}
+
 /// How the raw positions of a touch panel become display pixels.
 #[derive(Clone, Copy, Debug, PartialEq, Eq)]
 pub struct Panel {
@@ -133,6 +158,8 @@ pub struct Received {
     pub moment_us: u64,
     /// What it says.
     pub body: Body,
+    /// The user data that the client was opened with.
+    pub user_data: u64,
 }
 
 /// What [`Live::next_any`] hands out.
@@ -201,6 +228,7 @@ impl Received {
             seq: m.seq,
             moment_us: m.moment_us,
             body,
+            user_data: m.user_data,
         }
     }
 }
@@ -208,7 +236,7 @@ impl Received {
 /// Why a call was refused.
 #[derive(Clone, Copy, Debug, PartialEq, Eq)]
 pub enum LiveError {
-    /// Out of memory. Nothing changed, unless the call says otherwise.
+    /// Out of memory. Nothing changed, unless the call says otherwise, except that clients may be choked or released.
     NoMemory,
     /// A number is out of its range. Nothing changed.
     OutOfRange,
@@ -232,6 +260,12 @@ pub enum LiveError {
     TooMany,
     /// A panel has 1 to 16 slots. Nothing changed.
     BadSlots,
+    /// A finger with this touch id is down on the panel. Nothing changed.
+    FingerDown,
+    /// No finger with this touch id is down on the panel. Nothing changed.
+    NoFinger,
+    /// As many fingers as the panel has slots are down on it. Nothing changed.
+    TooManyFingers,
     /// The text is not a key layout. Nothing changed.
     BadLayout {
         /// Its first refused line, from 1 on.
@@ -247,6 +281,8 @@ pub enum LiveError {
         /// Its channel.
         channel: u32,
     },
+    /// The client has no window now. Nothing changed.
+    NotShown,
 }
 
 impl fmt::Display for LiveError {
@@ -264,11 +300,15 @@ impl fmt::Display for LiveError {
             LiveError::Waits => write!(f, "memory was wanting: what the device gave waits"),
             LiveError::TooMany => write!(f, "too many windows, or no device number is free"),
             LiveError::BadSlots => write!(f, "a panel has 1 to 16 slots"),
+            LiveError::FingerDown => write!(f, "a finger with this touch id is down"),
+            LiveError::NoFinger => write!(f, "no finger with this touch id is down"),
+            LiveError::TooManyFingers => write!(f, "every slot of the panel has a finger"),
             LiveError::BadLayout { line } => write!(f, "line {line} of the key layout is refused"),
             LiveError::WindowNotOpen { place } => {
                 write!(f, "the client of window {place} is not open")
             }
             LiveError::Twice { channel } => write!(f, "channel {channel} has two windows"),
+            LiveError::NotShown => write!(f, "the client has no window"),
         }
     }
 }
@@ -291,6 +331,10 @@ fn done(status: i32) -> Result<(), LiveError> {
         sys::WAITS => LiveError::Waits,
         sys::TOO_MANY => LiveError::TooMany,
         sys::BAD_SLOTS => LiveError::BadSlots,
+        sys::NOT_SHOWN => LiveError::NotShown,
+        sys::FINGER_DOWN => LiveError::FingerDown,
+        sys::NO_FINGER => LiveError::NoFinger,
+        sys::TOO_MANY_FINGERS => LiveError::TooManyFingers,
         status => unreachable!("the service is open: status {status}"),
     })
 }
@@ -450,6 +494,95 @@ impl Live {
         })
     }
 
+    /// A finger goes down on a panel, at a position in the units of the panel. Its touch id may be any number that no
+    /// other finger on the panel has. The next [`touch_frame`](Live::touch_frame) dispatches what the fingers did.
+    ///
+    /// libinput and wlroots report fingers so: one by one, and then a frame. A panel that is driven so is to get no
+    /// [`event`](Live::event) and no [`args`](Live::args) besides.
+    ///
+    /// ```
+    /// use inputflinger::{Live, LiveError, Panel};
+    ///
+    /// let mut live = Live::new(5_000_000, [0; 8])?;
+    /// let panel = Panel { x: (0, 1079), y: (0, 2399), width: 1080, height: 2400, rotation: 0 };
+    /// let device = live.add_touch(0, 16, &panel)?;
+    /// live.touch_down(1000, device, 7, 540, 1200)?;
+    /// assert_eq!(live.touch_down(1000, device, 7, 100, 200), Err(LiveError::FingerDown));
+    /// live.touch_frame(1000, device)?;
+    /// live.touch_up(2000, device, 7)?;
+    /// live.touch_frame(2000, device)?;
+    /// # Ok::<(), LiveError>(())
+    /// ```
+    ///
+    /// # Errors
+    ///
+    /// `FingerDown`; `TooManyFingers` if no slot of the panel is free: for a 17th finger, or one more than the slots it
+    /// was plugged in with; and those of [`event`](Live::event). After `NoMemory` the fingers are as before, and the call
+    /// can be made again.
+    pub fn touch_down(
+        &mut self,
+        now_us: u64,
+        device: u8,
+        id: i32,
+        x: i32,
+        y: i32,
+    ) -> Result<(), LiveError> {
+        // SAFETY: as above.
+        done(unsafe {
+            sys::inputflinger_live_touch_down(&mut self.handle, now_us, device, id, x, y)
+        })
+    }
+
+    /// A finger that is down on a panel moves to a position in the units of the panel.
+    ///
+    /// # Errors
+    ///
+    /// `NoFinger`, and those of [`event`](Live::event).
+    pub fn touch_motion(
+        &mut self,
+        now_us: u64,
+        device: u8,
+        id: i32,
+        x: i32,
+        y: i32,
+    ) -> Result<(), LiveError> {
+        // SAFETY: as above.
+        done(unsafe {
+            sys::inputflinger_live_touch_motion(&mut self.handle, now_us, device, id, x, y)
+        })
+    }
+
+    /// A finger that is down on a panel goes up. If it went down since the last frame, it gives nothing.
+    ///
+    /// # Errors
+    ///
+    /// `NoFinger`, and those of [`event`](Live::event).
+    pub fn touch_up(&mut self, now_us: u64, device: u8, id: i32) -> Result<(), LiveError> {
+        // SAFETY: as above.
+        done(unsafe { sys::inputflinger_live_touch_up(&mut self.handle, now_us, device, id) })
+    }
+
+    /// A finger that is down on a panel is cancelled, as a palm. The frame ends with it: what other fingers did since the
+    /// last one is dispatched too.
+    ///
+    /// # Errors
+    ///
+    /// `NoFinger`, and those of [`event`](Live::event).
+    pub fn touch_cancel(&mut self, now_us: u64, device: u8, id: i32) -> Result<(), LiveError> {
+        // SAFETY: as above.
+        done(unsafe { sys::inputflinger_live_touch_cancel(&mut self.handle, now_us, device, id) })
+    }
+
+    /// Dispatches what the fingers of a panel did since the last frame.
+    ///
+    /// # Errors
+    ///
+    /// Those of [`event`](Live::event).
+    pub fn touch_frame(&mut self, now_us: u64, device: u8) -> Result<(), LiveError> {
+        // SAFETY: as above.
+        done(unsafe { sys::inputflinger_live_touch_frame(&mut self.handle, now_us, device) })
+    }
+
     /// Hands in a ready-made motion or key of a device, in display pixels.
     ///
     /// # Errors
@@ -494,6 +627,44 @@ impl Live {
         Ok(Client { plain })
     }
 
+    /// Opens a client with options on the first free channel.
+    ///
+    /// ```
+    /// use inputflinger::{Live, Options};
+    ///
+    /// let mut live = Live::new(5_000_000, [0; 8])?;
+    /// let client = live.open_with(Options { user_data: 7, finishes: true })?;
+    /// assert_eq!(live.user_data(client), Some(7));
+    /// # Ok::<(), inputflinger::LiveError>(())
+    /// ```
+    ///
+    /// # Errors
+    ///
+    /// `Full` and `NoMemory`.
+    pub fn open_with(&mut self, options: Options) -> Result<Client, LiveError> {
+        let told = sys::Options {
+            user_data: options.user_data,
+            finishes: u8::from(options.finishes),
+        };
+        let mut plain = sys::Client::default();
+        // SAFETY: as above.
+        done(unsafe {
+            let (live, size) = (&mut self.handle, size_of::<sys::Options>());
+            sys::inputflinger_live_open_with_sized(live, &told, size, &mut plain)
+        })?;
+        Ok(Client { plain })
+    }
+
+    /// The user data that a client was opened with; `None` if it is not open.
+    pub fn user_data(&self, client: Client) -> Option<u64> {
+        let mut user_data = 0;
+        // SAFETY: as above.
+        let status = unsafe {
+            sys::inputflinger_live_user_data(&self.handle, &client.plain, &mut user_data)
+        };
+        (status == sys::OK).then_some(user_data)
+    }
+
     /// Closes a client: its window is no longer shown, what it holds is cancelled, and what it did not receive is gone.
     ///
     /// # Errors
@@ -533,17 +704,7 @@ impl Live {
             .collect();
         let mut rows = Vec::with_capacity(windows.len());
         for window in windows {
-            rows.push(sys::Window {
-                client: window.client.plain,
-                frame: window.frame.plain(),
-                flags: window.flags,
-                rects: u32::try_from(window.region.len()).map_err(|_| LiveError::OutOfRange)?,
-                display: window.display,
-                unused: [0; 7],
-                owner: window.owner,
-                opacity: window.opacity,
-                occlusion: window.occlusion as u8,
-            });
+            rows.push(window.plain()?);
         }
         let mut named = 0;
         // SAFETY: each pointer and length are those of one vector; as above.
@@ -568,6 +729,27 @@ impl Live {
             }),
             status => done(status),
         }
+    }
+
+    /// Replaces the window of a client, which stays where it is, front to back. All other windows stay as they are.
+    ///
+    /// # Errors
+    ///
+    /// `NotOpen`, `NotShown`, `OutOfRange` and `NoMemory`.
+    pub fn window(&mut self, now_us: u64, window: &Window<'_>) -> Result<(), LiveError> {
+        let rects: Vec<sys::Rect> = window.region.iter().map(Rect::plain).collect();
+        let row = window.plain()?;
+        // SAFETY: the pointer and the length are those of one vector; as above.
+        done(unsafe {
+            sys::inputflinger_live_window_sized(
+                &mut self.handle,
+                now_us,
+                &row,
+                size_of::<sys::Window>(),
+                rects.as_ptr(),
+                rects.len(),
+            )
+        })
     }
 
     /// Requests the focus of a display for a client, or for none.
@@ -667,7 +849,7 @@ impl Live {
     }
 
     /// The first time at which something is due: a message that is late, or the repeat of a held key. While input waits
-    /// for memory, it is the clock.
+    /// for memory, or a client is to be choked, released or reported, it is the clock.
     pub fn due(&self) -> Option<u64> {
         let mut moment_us = 0;
         // SAFETY: as above.
@@ -675,8 +857,24 @@ impl Live {
         (status == sys::OK).then_some(moment_us)
     }
 
+    /// Sets how many messages a client may leave unreceived, 10,000 at first. A client that has more is choked by the
+    /// next call that may send something: the mask of the next `advance` has its channel, its window is a wall, and it
+    /// has no focus. Once it has finished all of its messages, it gets both back.
+    pub fn set_most(&mut self, most: u64) {
+        // SAFETY: as above.
+        let _ = unsafe { sys::inputflinger_live_set_most(&mut self.handle, most) };
+    }
+
+    /// Whether a client is open and choked.
+    pub fn is_choked(&self, client: Client) -> bool {
+        let mut is_choked = false;
+        // SAFETY: as above.
+        unsafe { sys::inputflinger_live_is_choked(&self.handle, &client.plain, &mut is_choked) };
+        is_choked
+    }
+
     /// Makes room for this many next events, whichever devices they belong to. None of them is `Waits`, if nothing waits
-    /// now and no other call comes between.
+    /// now, no other call comes between, and no client is choked or released meanwhile.
     ///
     /// # Errors
     ///
@@ -724,6 +922,21 @@ impl Live {
         // SAFETY: as above.
         let status = unsafe { sys::inputflinger_live_key_target(&self.handle, &mut plain) };
         (status == sys::OK).then_some(Client { plain })
+    }
+
+    /// The client whose window a touch at a pixel of a display goes to: that of the first window from the front which is
+    /// no spy, is touchable and has the pixel in its region. `None` if there is no such window, or if it is a wall.
+    ///
+    /// # Errors
+    ///
+    /// `OutOfRange` if there is no such display.
+    pub fn window_at(&self, display: u8, x: i32, y: i32) -> Result<Option<Client>, LiveError> {
+        let mut plain = sys::Client::default();
+        // SAFETY: as above.
+        let status = unsafe {
+            sys::inputflinger_live_window_at(&self.handle, display, x, y, &mut plain)
+        };
+        found(status, ()).map(|told| told.map(|()| Client { plain }))
     }
 
     /// Whether a client is open and responds.

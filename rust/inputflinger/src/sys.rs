@@ -37,6 +37,7 @@ pub struct Message {
     pub down: u8,
     pub focus: u8,
     pub pointers: [Pointer; 16],
+    pub user_data: u64,
 }
 
 /// `struct inputflinger_fault`
@@ -80,6 +81,14 @@ pub struct Live {
 pub struct Client {
     pub generation: u64,
     pub channel: u32,
+}
+
+/// `struct inputflinger_options`
+#[repr(C)]
+#[derive(Clone, Copy, Default)]
+pub struct Options {
+    pub user_data: u64,
+    pub finishes: u8,
 }
 
 /// `struct inputflinger_rect`
@@ -168,6 +177,10 @@ pub const TWICE: i32 = 18;
 pub const BAD_SLOTS: i32 = 19;
 pub const BAD_LAYOUT: i32 = 20;
 pub const NO_THREADS: i32 = 21;
+pub const NOT_SHOWN: i32 = 22;
+pub const FINGER_DOWN: i32 = 23;
+pub const NO_FINGER: i32 = 24;
+pub const TOO_MANY_FINGERS: i32 = 25;
 
 extern "C" {
     pub fn inputflinger_run(
@@ -228,6 +241,26 @@ extern "C" {
         code: u16,
         value: i32,
     ) -> i32;
+    pub fn inputflinger_live_touch_down(
+        live: *mut Live,
+        now_us: u64,
+        device: u8,
+        id: i32,
+        x: i32,
+        y: i32,
+    ) -> i32;
+    pub fn inputflinger_live_touch_motion(
+        live: *mut Live,
+        now_us: u64,
+        device: u8,
+        id: i32,
+        x: i32,
+        y: i32,
+    ) -> i32;
+    pub fn inputflinger_live_touch_up(live: *mut Live, now_us: u64, device: u8, id: i32) -> i32;
+    pub fn inputflinger_live_touch_cancel(live: *mut Live, now_us: u64, device: u8, id: i32)
+        -> i32;
+    pub fn inputflinger_live_touch_frame(live: *mut Live, now_us: u64, device: u8) -> i32;
     pub fn inputflinger_live_args_sized(
         live: *mut Live,
         now_us: u64,
@@ -235,6 +268,17 @@ extern "C" {
         message_size: usize,
     ) -> i32;
     pub fn inputflinger_live_open(live: *mut Live, client: *mut Client) -> i32;
+    pub fn inputflinger_live_open_with_sized(
+        live: *mut Live,
+        options: *const Options,
+        options_size: usize,
+        client: *mut Client,
+    ) -> i32;
+    pub fn inputflinger_live_user_data(
+        live: *const Live,
+        client: *const Client,
+        user_data: *mut u64,
+    ) -> i32;
     pub fn inputflinger_live_close(live: *mut Live, now_us: u64, client: *const Client) -> i32;
     pub fn inputflinger_live_is_open(
         live: *const Live,
@@ -252,6 +296,14 @@ extern "C" {
         rects: *const Rect,
         rects_len: usize,
         named: *mut u64,
+    ) -> i32;
+    pub fn inputflinger_live_window_sized(
+        live: *mut Live,
+        now_us: u64,
+        window: *const Window,
+        window_size: usize,
+        rects: *const Rect,
+        rects_len: usize,
     ) -> i32;
     pub fn inputflinger_live_focus(
         live: *mut Live,
@@ -292,11 +344,24 @@ extern "C" {
         seq: u64,
     ) -> i32;
     pub fn inputflinger_live_due(live: *const Live, moment_us: *mut u64) -> i32;
+    pub fn inputflinger_live_set_most(live: *mut Live, most: u64) -> i32;
+    pub fn inputflinger_live_is_choked(
+        live: *const Live,
+        client: *const Client,
+        is_choked: *mut bool,
+    ) -> i32;
     pub fn inputflinger_live_reserve(live: *mut Live, events: u16) -> i32;
     pub fn inputflinger_live_advance(live: *mut Live, now_us: u64, mask: *mut u64) -> i32;
     pub fn inputflinger_live_clock(live: *const Live, moment_us: *mut u64) -> i32;
     pub fn inputflinger_live_focused(live: *const Live, display: u8, client: *mut Client) -> i32;
     pub fn inputflinger_live_key_target(live: *const Live, client: *mut Client) -> i32;
+    pub fn inputflinger_live_window_at(
+        live: *const Live,
+        display: u8,
+        x: i32,
+        y: i32,
+        client: *mut Client,
+    ) -> i32;
     pub fn inputflinger_live_is_responsive(
         live: *const Live,
         client: *const Client,
@@ -334,6 +399,7 @@ mod tests {
             size_of::<Panel>(),
             size_of::<Displays>(),
             size_of::<Ran>(),
+            size_of::<Options>(),
         ];
         for (number, size) in sizes.iter().enumerate() {
             // SAFETY: the call takes a number and answers one.

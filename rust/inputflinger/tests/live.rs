@@ -1,8 +1,8 @@
 //! The answers of a live service.
 
 use inputflinger::{
-    window_flags, Action, Body, Key, Live, LiveError, Message, Motion, Occlusion, Panel, Pointer,
-    Rect, Window, FLAG_OBSCURED,
+    window_flags, Action, Body, Key, Live, LiveError, Message, Motion, Occlusion, Options, Panel,
+    Pointer, Rect, Window, FLAG_OBSCURED,
 };
 
 const PANEL: Panel = Panel {
@@ -115,6 +115,79 @@ fn clients_come_and_go() -> Result<(), LiveError> {
 }
 
 #[test]
+fn a_window_moves_where_it_is() -> Result<(), LiveError> {
+    let mut live = Live::new(5_000_000, [0; 8])?;
+    let device = live.add_touch(0, 10, &PANEL)?;
+    let (front, back) = (live.open()?, live.open()?);
+    live.windows(0, &[window(front, 0), window(back, 0)])?;
+    let lower = Rect {
+        top: 1200,
+        ..SCREEN
+    };
+    let moved = Window {
+        frame: lower,
+        region: &[lower],
+        ..window(front, 0)
+    };
+    live.window(1_000, &moved)?;
+    for (y, wanted) in [(600, (None, Some(600))), (1800, (Some(600), None))] {
+        let finger = [Pointer { id: 0, x: 540, y }];
+        for action in [Action::Down, Action::Up] {
+            live.args(2_000, &Message::motion(0, Motion::new(device, action, &finger)))?;
+            let mut received = |client| -> Result<Option<i32>, LiveError> {
+                Ok(match live.next(client)?.map(|told| told.body) {
+                    Some(Body::Motion { pointers, .. }) => Some(pointers[0].y),
+                    _ => None,
+                })
+            };
+            assert_eq!((received(front)?, received(back)?), wanted);
+        }
+    }
+    live.windows(3_000, &[window(back, 0)])?;
+    assert_eq!(live.window(3_000, &moved), Err(LiveError::NotShown));
+    let opaque = Window { opacity: 101, ..moved };
+    assert_eq!(live.window(3_000, &opaque), Err(LiveError::OutOfRange));
+    live.close(3_000, front)?;
+    assert_eq!(live.window(3_000, &moved), Err(LiveError::NotOpen));
+    Ok(())
+}
+
+#[test]
+fn a_client_that_does_not_receive_is_choked_until_it_has_finished_everything() -> Result<(), LiveError> {
+    let mut live = Live::new(5_000_000, [0; 8])?;
+    let device = live.add_touch(0, 10, &PANEL)?;
+    let (client, behind) = (live.open()?, live.open()?);
+    live.windows(0, &[window(client, 0), window(behind, 0)])?;
+    live.focus(0, 0, Some(client))?;
+    live.set_most(2);
+    let finger = [Pointer { id: 0, x: 540, y: 1200 }];
+    let touch = |action| Message::motion(0, Motion::new(device, action, &finger));
+    live.args(1_000, &touch(Action::Down))?;
+    live.args(1_000, &touch(Action::Up))?;
+    assert!(!live.is_choked(client));
+    assert_eq!(live.due(), Some(1_000));
+    assert_eq!(live.advance(2_000)?, 0b1);
+    assert!(live.is_choked(client));
+    assert_eq!(live.focused(0)?, None);
+    assert_eq!(live.advance(3_000)?, 0);
+    live.args(3_000, &touch(Action::Down))?;
+    assert_eq!((live.holds(client, device)?, live.holds(behind, device)?), (0, 0));
+    live.args(3_000, &touch(Action::Up))?;
+    let mut last = 0;
+    while let Some(message) = live.next(client)? {
+        last = message.seq;
+    }
+    assert_eq!(last, 4);
+    live.finish_through(4_000, client, last)?;
+    assert!(live.is_choked(client));
+    assert_eq!(live.due(), Some(4_000));
+    assert_eq!(live.advance(5_000)?, 0);
+    assert!(!live.is_choked(client));
+    assert_eq!(live.focused(0)?, Some(client));
+    Ok(())
+}
+
+#[test]
 fn a_finger_that_a_spy_pilfers() -> Result<(), LiveError> {
     let mut live = Live::new(5_000_000, [0; 8])?;
     let device = live.add_touch(0, 10, &PANEL)?;
@@ -154,6 +227,72 @@ fn a_finger_that_a_spy_pilfers() -> Result<(), LiveError> {
     live.reset(3000, device)?;
     assert_eq!(live.clock(), 3000);
     Ok(())
+}
+
+/// The actions of all messages that a client has, with their pointers.
+fn motions(
+    live: &mut Live,
+    client: inputflinger::Client,
+) -> Result<Vec<(Action, Vec<Pointer>)>, LiveError> {
+    let mut told = Vec::new();
+    while let Some(received) = live.next(client)? {
+        match received.body {
+            Body::Motion {
+                action, pointers, ..
+            } => told.push((action, pointers)),
+            other => panic!("{other:?}"),
+        }
+    }
+    Ok(told)
+}
+
+#[test]
+fn fingers_come_one_by_one() -> Result<(), LiveError> {
+    let mut live = Live::new(5_000_000, [0; 8])?;
+    let device = live.add_touch(0, 16, &PANEL)?;
+    let client = live.open()?;
+    live.windows(0, &[window(client, 0)])?;
+    let (first, second) = (
+        Pointer { id: 0, x: 540, y: 1200 },
+        Pointer { id: 1, x: 100, y: 200 },
+    );
+    live.touch_down(1000, device, i32::MAX, 540, 1200)?;
+    live.touch_down(1000, device, -3, 90, 200)?;
+    live.touch_motion(1000, device, -3, 100, 200)?;
+    assert_eq!(live.next(client)?, None);
+    live.touch_frame(1000, device)?;
+    live.touch_up(2000, device, i32::MAX)?;
+    live.touch_frame(2000, device)?;
+    live.touch_cancel(3000, device, -3)?;
+    assert_eq!(
+        motions(&mut live, client)?,
+        [
+            (Action::Down, vec![first]),
+            (Action::PointerDown, vec![first, second]),
+            (Action::PointerUp, vec![first, second]),
+            (Action::Cancel, vec![second]),
+        ]
+    );
+    Ok(())
+}
+
+#[test]
+fn a_seventeenth_finger_is_refused() -> Result<(), LiveError> {
+    let mut live = Live::new(5_000_000, [0; 8])?;
+    let device = live.add_touch(0, 16, &PANEL)?;
+    for id in 0..16 {
+        live.touch_down(1000, device, 100 * id, 10 * id, 0)?;
+    }
+    assert_eq!(live.touch_down(2000, device, 1, 0, 0), Err(LiveError::TooManyFingers));
+    assert_eq!(live.touch_down(2000, device, 300, 0, 0), Err(LiveError::FingerDown));
+    assert_eq!(live.touch_motion(2000, device, 1, 0, 0), Err(LiveError::NoFinger));
+    assert_eq!(live.touch_up(2000, device, 1), Err(LiveError::NoFinger));
+    assert_eq!(live.touch_cancel(2000, device, 1), Err(LiveError::NoFinger));
+    assert_eq!(live.touch_frame(2000, 2), Err(LiveError::NoDevice));
+    assert_eq!(live.touch_frame(2000, 9), Err(LiveError::OutOfRange));
+    assert_eq!(live.clock(), 2000);
+    live.touch_up(2000, device, 300)?;
+    live.touch_down(2000, device, 1, 0, 0)
 }
 
 #[test]
@@ -220,5 +359,36 @@ fn a_key_that_is_late() -> Result<(), LiveError> {
     assert!(!live.is_responsive(client));
     live.finish_through(1_000_000, client, focus.seq + 1)?;
     assert_eq!(live.advance(u64::MAX), Err(LiveError::OutOfRange));
+    Ok(())
+}
+
+#[test]
+fn a_client_with_options_finishes_by_itself() -> Result<(), LiveError> {
+    let mut live = Live::new(5_000_000, [0; 8])?;
+    let device = live.add_touch(0, 10, &PANEL)?;
+    let options = Options {
+        user_data: 11,
+        finishes: true,
+    };
+    let (own, other) = (live.open_with(options)?, live.open()?);
+    assert_eq!((live.user_data(own), live.user_data(other)), (Some(11), Some(0)));
+    assert_eq!(live.window_at(0, 540, 1200)?, None);
+    live.windows(0, &[window(own, 0), window(other, 0)])?;
+    assert_eq!(live.window_at(0, 540, 1200)?, Some(own));
+    assert_eq!(live.window_at(1, 540, 1200)?, None);
+    assert_eq!(live.window_at(4, 540, 1200), Err(LiveError::OutOfRange));
+    let finger = [Pointer {
+        id: 0,
+        x: 540,
+        y: 1200,
+    }];
+    live.args(1000, &Message::motion(0, Motion::new(device, Action::Down, &finger)))?;
+    assert_eq!(live.due(), Some(5_001_000));
+    assert_eq!(live.next(own)?.map(|told| told.user_data), Some(11));
+    assert_eq!(live.due(), None);
+    assert_eq!(live.finish(1000, own, 1), Err(LiveError::UnknownSeq));
+    live.close(2000, own)?;
+    assert_eq!(live.user_data(own), None);
+    assert_eq!(live.window_at(0, 540, 1200)?, Some(other));
     Ok(())
 }
