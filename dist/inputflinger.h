@@ -63,8 +63,8 @@
  *
  * Structs that grow
  *
- * A later release may add members at the end of a message, a fault, a state, a panel and a window. A program that was
- * compiled before still runs, since each call that takes one of them also takes its size: those calls are inline here,
+ * A later release may add members at the end of a message, a fault, a state, a panel, a window and options. A program that
+ * was compiled before still runs, since each call that takes one of them also takes its size: those calls are inline here,
  * and hand the size that this header gives the struct to the function of the library whose name ends in _sized. A binding
  * of another language calls that function with the size of its own struct. A member that your struct does not have counts
  * as 0, which always means what the release before did. Members that your struct has and the library does not have must be
@@ -139,7 +139,15 @@ enum inputflinger_status {
 	/* The text is not a key layout. */
 	INPUTFLINGER_BAD_LAYOUT = 20,
 	/* The words are those of race, which starts threads. */
-	INPUTFLINGER_NO_THREADS = 21
+	INPUTFLINGER_NO_THREADS = 21,
+	/* The client has no window. */
+	INPUTFLINGER_NOT_SHOWN = 22,
+	/* A finger with this touch id is down on the panel. */
+	INPUTFLINGER_FINGER_DOWN = 23,
+	/* No finger with this touch id is down on the panel. */
+	INPUTFLINGER_NO_FINGER = 24,
+	/* As many fingers as the panel has slots, at most 16, are down on it. */
+	INPUTFLINGER_TOO_MANY_FINGERS = 25
 };
 
 /* What a status means, in one English line without a full stop; "unknown status" for any other number. Never NULL. */
@@ -150,6 +158,7 @@ struct inputflinger_fault;
 struct inputflinger_judge;
 struct inputflinger_live;
 struct inputflinger_message;
+struct inputflinger_options;
 struct inputflinger_panel;
 struct inputflinger_rect;
 struct inputflinger_state;
@@ -166,9 +175,14 @@ int inputflinger_live_add_touch_sized(struct inputflinger_live *live, uint8_t di
 				      const struct inputflinger_panel *panel, size_t panel_size, uint8_t *device);
 int inputflinger_live_args_sized(struct inputflinger_live *live, uint64_t now_us,
 				 const struct inputflinger_message *message, size_t message_size);
+int inputflinger_live_open_with_sized(struct inputflinger_live *live, const struct inputflinger_options *options,
+				      size_t options_size, struct inputflinger_client *client);
 int inputflinger_live_windows_sized(struct inputflinger_live *live, uint64_t now_us,
 				    const struct inputflinger_window *windows, size_t window_size, size_t windows_len,
 				    const struct inputflinger_rect *rects, size_t rects_len, uint64_t *named);
+int inputflinger_live_window_sized(struct inputflinger_live *live, uint64_t now_us,
+				   const struct inputflinger_window *window, size_t window_size,
+				   const struct inputflinger_rect *rects, size_t rects_len);
 int inputflinger_live_next_sized(struct inputflinger_live *live, const struct inputflinger_client *client,
 				 struct inputflinger_message *message, size_t message_size);
 int inputflinger_live_next_any_sized(struct inputflinger_live *live, struct inputflinger_client *client,
@@ -242,6 +256,8 @@ struct inputflinger_message {
 	uint8_t down;
 	uint8_t focus;
 	struct inputflinger_pointer pointers[INPUTFLINGER_MAX_POINTERS];
+	/* What the client that gets the message was opened with; ignored in a message that is handed in. */
+	uint64_t user_data;
 };
 
 /* Why a message is not allowed: the first reason for its kind that holds. */
@@ -598,10 +614,46 @@ int inputflinger_live_event(struct inputflinger_live *live, uint64_t now_us, uin
 			    uint16_t code, int32_t value);
 
 /*
+ * Single fingers of a panel, as libinput and wlroots report them: each by a touch id, which may be any number that no other
+ * finger on the panel has, at positions in the units of the panel, and then a frame. Each call says to the panel's reader
+ * what a panel of slots would say as events, so a frame gives what these events would give. A panel that these calls drive
+ * is to get no events and no args besides. A finger that goes down and up within one frame gives nothing. A finger that is
+ * refused leaves all fingers as they are, and only the clock advances.
+ *
+ *     touch_down 7 at (540,1200)           INPUTFLINGER_OK
+ *     touch_down -3 at (100,200)           INPUTFLINGER_OK
+ *     touch_frame                          INPUTFLINGER_OK: a DOWN of pointer 0 and a POINTER_DOWN of pointer 1
+ *     touch_up 7                           INPUTFLINGER_OK
+ *     touch_frame                          INPUTFLINGER_OK: a POINTER_UP of pointer 0
+ *     touch_cancel -3                      INPUTFLINGER_OK: a CANCEL, as of a palm; a cancel ends the frame too
+ *
+ *     INPUTFLINGER_OK                      it was taken, and what a frame or a cancel gives is dispatched
+ *     INPUTFLINGER_OUT_OF_RANGE            now_us or device
+ *     INPUTFLINGER_NO_DEVICE               the device is not plugged in
+ *     INPUTFLINGER_FINGER_DOWN             touch_down: a finger with this id is down on the panel
+ *     INPUTFLINGER_TOO_MANY_FINGERS        touch_down: no slot of the panel is free, for a 17th finger or for one more than
+ *                                          the slots that it was plugged in with; a device with keys has none. Leave
+ *                                          the finger out: its other calls answer INPUTFLINGER_NO_FINGER
+ *     INPUTFLINGER_NO_FINGER               touch_motion, touch_up, touch_cancel: no finger with this id is down on the
+ *                                          panel
+ *     INPUTFLINGER_INCONSISTENT,
+ *     INPUTFLINGER_WAITS                   as for inputflinger_live_event
+ *     INPUTFLINGER_NO_MEMORY               nothing was given, and the fingers are as before: make the call again
+ */
+int inputflinger_live_touch_down(struct inputflinger_live *live, uint64_t now_us, uint8_t device, int32_t id, int32_t x,
+				 int32_t y);
+int inputflinger_live_touch_motion(struct inputflinger_live *live, uint64_t now_us, uint8_t device, int32_t id, int32_t x,
+				   int32_t y);
+int inputflinger_live_touch_up(struct inputflinger_live *live, uint64_t now_us, uint8_t device, int32_t id);
+int inputflinger_live_touch_cancel(struct inputflinger_live *live, uint64_t now_us, uint8_t device, int32_t id);
+int inputflinger_live_touch_frame(struct inputflinger_live *live, uint64_t now_us, uint8_t device);
+
+/*
  * Makes room for this many next events, whichever devices they belong to. None of them answers INPUTFLINGER_WAITS, if
- * nothing waits now and only events come between. An event may give 33 motions, and each motion may send a client 131
- * messages. The call makes room for these in every channel that was used: about 10 MB an event with 10 channels, which
- * the next reserve uses again. An event may still answer INPUTFLINGER_NO_MEMORY: then it was not taken.
+ * nothing waits now, only events come between, and no client is choked or released meanwhile. A call of a finger or a
+ * frame counts as an event here. An event may give 33 motions, and each motion may send a client 131 messages. The call
+ * makes room for these in every channel that was used: about 10 MB an event with 10 channels, which the next reserve uses
+ * again. An event may still answer INPUTFLINGER_NO_MEMORY: then it was not taken.
  *
  *     INPUTFLINGER_OK         there is room
  *     INPUTFLINGER_NO_MEMORY  nothing changed
@@ -631,13 +683,51 @@ static inline int inputflinger_live_args(struct inputflinger_live *live, uint64_
  */
 
 /*
- * Opens a client on the first channel that is free.
+ * Opens a client on the first channel that is free, as inputflinger_live_open_with does with options whose bytes are all 0.
  *
  *     INPUTFLINGER_OK         client is written
  *     INPUTFLINGER_FULL       64 clients are open
  *     INPUTFLINGER_NO_MEMORY  no client was opened
  */
 int inputflinger_live_open(struct inputflinger_live *live, struct inputflinger_client *client);
+
+/* What a client is opened with. Options whose bytes are all 0 are those of inputflinger_live_open. */
+struct inputflinger_options {
+	/* Any number of yours, such as the address of your record of the client. Each message of the client has it. */
+	uint64_t user_data;
+	/*
+	 * 1 if the client finishes by itself: each message is finished as soon as inputflinger_live_next or
+	 * inputflinger_live_next_any hands it out, at the clock. Otherwise 0.
+	 */
+	uint8_t finishes;
+};
+
+/*
+ * Opens a client with options on the first channel that is free.
+ *
+ *     open_with {user_data 7, finishes 1}             INPUTFLINGER_OK, channel 1, generation 1
+ *     next, after a DOWN was sent to it               INPUTFLINGER_OK: seq 1, DOWN, user_data 7
+ *     finish 1                                        INPUTFLINGER_UNKNOWN_SEQ: it is finished already
+ *
+ *     INPUTFLINGER_OK            client is written
+ *     INPUTFLINGER_OUT_OF_RANGE  finishes is neither 0 nor 1
+ *     INPUTFLINGER_FULL          64 clients are open
+ *     INPUTFLINGER_NO_MEMORY     no client was opened
+ */
+static inline int inputflinger_live_open_with(struct inputflinger_live *live, const struct inputflinger_options *options,
+					      struct inputflinger_client *client)
+{
+	return inputflinger_live_open_with_sized(live, options, sizeof *options, client);
+}
+
+/*
+ * Reports the user data that a client was opened with.
+ *
+ *     INPUTFLINGER_OK        user_data is written
+ *     INPUTFLINGER_NOT_OPEN  the client is not open
+ */
+int inputflinger_live_user_data(const struct inputflinger_live *live, const struct inputflinger_client *client,
+				uint64_t *user_data);
 
 /*
  * Closes a client. Its window is no longer shown, what it holds is cancelled, its focus requests are withdrawn, and
@@ -666,7 +756,9 @@ int inputflinger_live_client_at(const struct inputflinger_live *live, uint32_t c
  *
  *     windows [a's window with 1 rectangle, b's with 2], [3 rectangles]
  *                                                     INPUTFLINGER_OK: a is in front of b
+ *     window [a's window, moved, with 1 rectangle]    INPUTFLINGER_OK: a is still in front of b
  *     windows [b's window]                            INPUTFLINGER_OK: a has none now; what it held is cancelled
+ *     window [a's window]                             INPUTFLINGER_NOT_SHOWN: nothing changed
  *     windows [b's window, that of a closed client]   INPUTFLINGER_NOT_OPEN, named 1: nothing changed
  *     focus(0, b)                                     INPUTFLINGER_OK: keys go to b
  *     focus(0, NULL)                                  INPUTFLINGER_OK: keys go nowhere
@@ -689,7 +781,7 @@ int inputflinger_live_client_at(const struct inputflinger_live *live, uint32_t c
  *     INPUTFLINGER_NOT_OPEN      the client of a window is not open; named is the index of the first such window, from 0
  *     INPUTFLINGER_TOO_MANY      more than 64 windows
  *     INPUTFLINGER_TWICE         a client has two windows; named is its channel
- *     INPUTFLINGER_NO_MEMORY     the windows stay as they were
+ *     INPUTFLINGER_NO_MEMORY     the windows that were asked for before stay
  */
 static inline int inputflinger_live_windows(struct inputflinger_live *live, uint64_t now_us,
 					    const struct inputflinger_window *windows, size_t windows_len,
@@ -697,6 +789,24 @@ static inline int inputflinger_live_windows(struct inputflinger_live *live, uint
 {
 	return inputflinger_live_windows_sized(live, now_us, windows, sizeof *windows, windows_len, rects, rects_len,
 					       named);
+}
+
+/*
+ * Replaces the window of a client by this one, as a window that moves needs it. Its place in the order and all other windows
+ * stay. rects has the rectangles of the window; rectangles left over are ignored. rects may be NULL if rects_len is 0.
+ *
+ *     INPUTFLINGER_OK            the window is shown
+ *     INPUTFLINGER_OUT_OF_RANGE  now_us; the display, the opacity or the occlusion; there are too few rectangles; the
+ *                                window has more than 64, or one whose edges are in the wrong order
+ *     INPUTFLINGER_NOT_OPEN      the client of the window is not open, or the window is a wall, which has none
+ *     INPUTFLINGER_NOT_SHOWN     the client has no window, nor a wall in its place: nothing changed
+ *     INPUTFLINGER_NO_MEMORY     the windows that were asked for before stay
+ */
+static inline int inputflinger_live_window(struct inputflinger_live *live, uint64_t now_us,
+					   const struct inputflinger_window *window,
+					   const struct inputflinger_rect *rects, size_t rects_len)
+{
+	return inputflinger_live_window_sized(live, now_us, window, sizeof *window, rects, rects_len);
 }
 
 /*
@@ -810,6 +920,37 @@ int inputflinger_live_finish_through(struct inputflinger_live *live, uint64_t no
 				     const struct inputflinger_client *client, uint64_t seq);
 
 /*
+ * A client that does not receive. Before each call that may send something, the service looks at how many messages each
+ * client has that it did not receive. A client with more than the most, 10,000 unless set_most says otherwise, is choked:
+ * the next advance reports it, a wall takes the place of its window (that of a spy lets touches through), and the focus is
+ * requested for nobody in its place. So it loses what it holds by the usual messages and is sent nothing more. Once it has
+ * finished everything that it was sent, it is released: it has its window and the focus again, as windows, window and
+ * focus last asked for them.
+ *
+ *     set_most 2                                      INPUTFLINGER_OK
+ *     focus(0, a), args DOWN, args MOVE, args MOVE    INPUTFLINGER_OK each: a has 4 messages, and receives none
+ *     due                                             INPUTFLINGER_OK, the clock: a is to be choked
+ *     advance                                         INPUTFLINGER_OK, mask 0x1: a is choked; it has a CANCEL and loses
+ *                                                     the focus
+ *     next until INPUTFLINGER_NOTHING, and finish_through the last
+ *                                                     INPUTFLINGER_OK: a is to be released
+ *     advance                                         INPUTFLINGER_OK, mask 0: a has its window and the focus again
+ *
+ * A call that runs out of memory may have choked or released clients, also where it says that nothing else changed.
+ */
+
+/*
+ * Sets how many messages a client may leave unreceived.
+ *
+ *     INPUTFLINGER_OK  the next call that may send something holds to it
+ */
+int inputflinger_live_set_most(struct inputflinger_live *live, uint64_t most);
+
+/* Reports whether a client is open and choked. */
+int inputflinger_live_is_choked(const struct inputflinger_live *live, const struct inputflinger_client *client,
+				bool *is_choked);
+
+/*
  * Time.
  *
  *     event 1: a key goes down at 1,000,000           INPUTFLINGER_OK; the client receives it and does not finish it
@@ -821,7 +962,8 @@ int inputflinger_live_finish_through(struct inputflinger_live *live, uint64_t no
 
 /*
  * Reports the first time at which something is due: a client that leaves a message unfinished for the limit, or the
- * repeat of a held key. It may be later than 10^18. While input waits for memory, it is the clock.
+ * repeat of a held key. It may be later than 10^18. While input waits for memory, it is the clock, and so it is while a
+ * client is to be choked or released, or was choked and is not reported yet.
  *
  *     INPUTFLINGER_OK       moment_us is written
  *     INPUTFLINGER_NOTHING  nothing is due
@@ -830,7 +972,8 @@ int inputflinger_live_due(const struct inputflinger_live *live, uint64_t *moment
 
 /*
  * Runs everything that is due up to now, each at its time, after input that still waits for memory. mask has the channels
- * of the open clients that were reported as unresponsive by this call, and by calls before it that ran out of memory.
+ * of the open clients that were reported as unresponsive by this call, and by calls before it that ran out of memory, and
+ * of those that were choked since the last mask.
  *
  *     INPUTFLINGER_OK            mask is written
  *     INPUTFLINGER_OUT_OF_RANGE  now_us
@@ -853,6 +996,18 @@ int inputflinger_live_focused(const struct inputflinger_live *live, uint8_t disp
 
 /* Reports the client that keys go to: INPUTFLINGER_OK, or INPUTFLINGER_NOTHING if there is none. */
 int inputflinger_live_key_target(const struct inputflinger_live *live, struct inputflinger_client *client);
+
+/*
+ * Reports the client whose window a touch at a pixel of a display, 0 to 3, goes to: that of the first window from the front
+ * which is no spy, is touchable and has the pixel in its region. The first finger of a gesture is given to it, if it
+ * responds and no window of another owner blocks its window there; spies in front of it are given the finger too.
+ *
+ *     INPUTFLINGER_OK            client is written
+ *     INPUTFLINGER_NOTHING       there is no such window, or it is a wall
+ *     INPUTFLINGER_OUT_OF_RANGE  display
+ */
+int inputflinger_live_window_at(const struct inputflinger_live *live, uint8_t display, int32_t x, int32_t y,
+				struct inputflinger_client *client);
 
 /* Reports whether a client is open and responds: it was not reported, or none of its messages is late any more. */
 int inputflinger_live_is_responsive(const struct inputflinger_live *live, const struct inputflinger_client *client,
