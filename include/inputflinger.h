@@ -604,8 +604,9 @@ int inputflinger_live_remove_device(struct inputflinger_live *live, uint64_t now
  *     INPUTFLINGER_OK            it was taken and dispatched
  *     INPUTFLINGER_OUT_OF_RANGE  now_us or device
  *     INPUTFLINGER_NO_DEVICE     the device is not plugged in
- *     INPUTFLINGER_INCONSISTENT  a part of what it gives does not fit what inputflinger_live_args handed in for the device
- *                                before: that part was not taken, the rest was dispatched, and the clock advanced
+ *     INPUTFLINGER_INCONSISTENT  a part of what it gives, or of input that waited for memory, does not fit what
+ *                                inputflinger_live_args handed in for its device before: that part was not taken, the
+ *                                rest was dispatched, and the clock advanced
  *     INPUTFLINGER_NO_MEMORY     it was not taken: nothing changed
  *     INPUTFLINGER_WAITS         out of memory after it was taken: it is dispatched, in its order, by the next call that
  *                                has the memory and hands something in or advances; not if room was reserved for it
@@ -936,7 +937,9 @@ int inputflinger_live_finish_through(struct inputflinger_live *live, uint64_t no
  *                                                     INPUTFLINGER_OK: a is to be released
  *     advance                                         INPUTFLINGER_OK, mask 0: a has its window and the focus again
  *
- * A call that runs out of memory may have choked or released clients, also where it says that nothing else changed.
+ * A call that may send something does this first. So if it then runs out of memory, or refuses a finger, a pilfer or input
+ * that does not fit, it may have advanced the clock, and choked or released clients, also where it says that nothing else
+ * changed.
  */
 
 /*
