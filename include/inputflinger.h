@@ -71,6 +71,17 @@
  * 0, or the answer is INPUTFLINGER_OUT_OF_RANGE; the library writes them as 0. A size below that of the first release is
  * INPUTFLINGER_OUT_OF_RANGE. No other struct ever changes.
  *
+ * Units
+ *
+ * Positions count units of a display. You choose the unit, one for all of a display: a pixel, half of one, or 1/256 as in
+ * Wayland's fixed-point numbers. The rules compare positions and subtract the corner of a window, so they hold for any
+ * unit. The text below says pixel for a unit.
+ *
+ * Frames, rectangles and positions are int32_t numbers; a difference that does not fit becomes the nearest number that
+ * does. With units of 1/256 pixel that is some 8 million pixels to each side. A panel turns its raw positions into whole
+ * units of a display that is at most 16,384 units wide and high: with units of 1/8 pixel 2,048 pixels, and with 1/256
+ * pixel 64. What inputflinger_live_args hands in has no such bound.
+ *
  * Times are microseconds of a clock of your own, at most 10^18. Each call that takes the current time also accepts a time
  * before that of an earlier call: the latest time that was handed in counts. The time of a call that is refused and
  * changes nothing does not count.
@@ -239,6 +250,9 @@ struct inputflinger_pointer {
  *     key       device (1 to 8), scan (the kernel's scan code), code (Android's key code), meta (KeyEvent's
  *               getMetaState), flags, repeat, down (1 or 0)
  *     focus     focus (1 if the window gets the focus, 0 if it loses it)
+ *
+ * In a message that a client receives, moment_us is the clock at which the service sent it, not the time of the event that
+ * caused it. The two differ if the event was handed in later than it happened, or waited for memory.
  */
 struct inputflinger_message {
 	uint64_t seq;
