@@ -33,7 +33,7 @@ use Rattle.command_files.specs.Recorded.{HasEnded, HasRead, RefusesEvents}
 use Rattle.command_files.specs.RefusalView.{refusal_view}
 
 pub same_script : (session : Session) (run : RunPlan) → run.displays ≡ device_displays (map device_view session.devices.items)
-    → map run_channel run.channels.items ≡ map channel_of (map channel_view session.channels.items)
+    → map run_channel run.channels.items ≡ map (channel_of session.repeats) (map channel_view session.channels.items)
     → map run_step run.steps.items ≡ map step_of session.steps.items → run.until ≡ session.end → plan_of run ≡ script_of (plan_view session)
 same_script session run d c s u = rw (d, c, s, u) refl
 

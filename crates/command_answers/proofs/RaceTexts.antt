@@ -1,9 +1,10 @@
 -- What the end of a race of a session's run says of its text.
-use Rattle.std.proofs.Common.{◌≡◌, ◌∙◌, ◌-◌, ◌<◌, ℕ, zero, suc, ◌+◌, Bool, true, false, List, ◌∷◌, cond, length, map, reverse, Some, Result, Ok, Err, IfOk, ap, sym, subst, refl, arith, []}
+use Rattle.std.proofs.Common.{◌≡◌, ◌∙◌, ◌-◌, ◌<◌, ℕ, zero, suc, ◌+◌, Bool, true, false, List, ◌∷◌, cond, length, map, reverse, Option, Some, Result, Ok, Err, IfOk, ap, sym, subst, refl, arith, []}
 use Rattle.std.specs.Prelude.{◌==◌, ◌≤◌, is_some}
 use Rattle.std.proofs.Math.Path.{fun_ext}
 use Rattle.std.proofs.lemmas.Bool.{eqb-true, eq-eqb}
 use Rattle.std.proofs.lemmas.List.{length-map, map-append}
+use Rattle.key_repeat.specs.declared.delays.Repeats.{Repeats}
 use Rattle.input_types.specs.declared.message.Args.{Args}
 use Rattle.dispatch_calls.specs.declared.call.Call.{Call}
 use Rattle.dispatch_calls.specs.declared.call.Call.TheVariants.{Finish}
@@ -139,7 +140,7 @@ race_written p past end ends again =
       few_ticks = subst (λ (h : History). ticks h ≤ moves h + 1) (sym there) ends.race.race.few_ticks;
       few_idles = subst (λ (h : History). idles h ≤ 81985) (sym there) ends.race.race.few_idles;
       ends =
-          subst (λ (n : ℕ). EndsSettling (finishes_from 1 plan.channels) n (replay plan.displays (reverse prints.calls))) (length-map p.channels channel_of)
+          subst (λ (n : ℕ). EndsSettling (finishes_from 1 plan.channels) n (replay plan.displays (reverse prints.calls))) (length-map p.channels (channel_of p.repeats))
           (subst (EndsSettling (finishes_from 1 plan.channels) (length plan.channels)) (sym there)
           (subst (λ f. EndsSettling f (length plan.channels) (steps (called end.core.entries))) (fun_ext ends.finishing_are) ends.ends));
     }
@@ -157,12 +158,12 @@ if_left (Ok x) s Post P post f = f x post
 if_left (Err e) s Post P post f = tt
 
 -- the lanes of a plan may start once its channels are opened
-pub may_run : (s : Start) (channels : List ChannelPlan) (steps : List ScriptStep) (cooked : List PlanArgs)
-    → DoPlan (map channel_of (map channel_view channels)) steps cooked s.lanes → length channels ≤ 64 → IsOf s.service s.seat → IsCaller (view s.seat)
+pub may_run : (repeats : Option Repeats) (s : Start) (channels : List ChannelPlan) (steps : List ScriptStep) (cooked : List PlanArgs)
+    → DoPlan (map (channel_of repeats) (map channel_view channels)) steps cooked s.lanes → length channels ≤ 64 → IsOf s.service s.seat → IsCaller (view s.seat)
     → OnlyOpens (view s.seat).mine.own → length (view s.seat).mine.own ≡ length channels → MayRun s
-may_run s channels steps cooked does few of caller only each =
+may_run repeats s channels steps cooked does few of caller only each =
     let many : s.lanes.channels ≡ length channels =
-    does.channels_are ∙ length-map (map channel_view channels) channel_of ∙ length-map channels channel_view in
+    does.channels_are ∙ length-map (map channel_view channels) (channel_of repeats) ∙ length-map channels channel_view in
     record {
       channels = omega (arith, many, few);
       scripts = omega (arith, does.few);

@@ -56,11 +56,11 @@ pub record RacedSo (plan : PlanData) (past : List RawEvent) (text : List ℕ) : 
   pub again : ReadsAgain order
   -- owners that finish messages finish what they received, none of it twice, and no other owner finishes anything
   pub orderly :
-      AreOrderly (finishes_from 1 (map channel_of plan.channels))
+      AreOrderly (finishes_from 1 (map (channel_of plan.repeats) plan.channels))
       (replay (device_displays plan.devices) (reverse calls))
   pub settled :
       Settled (device_displays plan.devices) (replay (device_displays plan.devices) (reverse calls))
-      (finishes_from 1 (map channel_of plan.channels))
+      (finishes_from 1 (map (channel_of plan.repeats) plan.channels))
   -- it ticks at most once more than it dispatches args or repeats a key, and calls in vain at most 81,985 times: five
   -- threads give up after 16,384 such calls each, and the final calls find nothing once for each of at most 64
   -- channels and once for args
@@ -70,7 +70,7 @@ pub record RacedSo (plan : PlanData) (past : List RawEvent) (text : List ℕ) : 
   pub few_idles : idles (replay (device_displays plan.devices) (reverse calls)) ≤ 81985
   -- the last calls do everything that is left to do, and none follows them
   pub ends :
-      EndsSettling (finishes_from 1 (map channel_of plan.channels)) (length plan.channels)
+      EndsSettling (finishes_from 1 (map (channel_of plan.repeats) plan.channels)) (length plan.channels)
       (replay (device_displays plan.devices) (reverse calls))
 
 -- the text of a race for the events of a recording, newest first, or that they give too many args

@@ -1,5 +1,6 @@
 -- A race of a plan, as its functions see it.
-use Rattle.std.specs.Prelude.{◌≡◌, ℕ, List, length, map}
+use Rattle.std.specs.Prelude.{◌≡◌, ℕ, List, Option, length, map}
+use Rattle.key_repeat.specs.declared.delays.Repeats.{Repeats}
 use Rattle.stream_text.specs.OrderHistory.{order_of_history}
 use Rattle.window_snapshot.specs.Mask.{mask_has}
 use Rattle.dispatch_core.specs.Machine.{called, steps}
@@ -31,12 +32,12 @@ pub record DoPlan (channels : List ChannelOf) (steps : List ScriptStep) (cooked 
   pub channels_are : l.channels ≡ length channels
   pub finishing_are : (c : ℕ) → mask_has l.finishing c ≡ finishes_from 1 channels c
 
--- the plan of these channels, steps and args, with the devices on these displays
-abbrev pub raced_plan : List ℕ → List ChannelPlan → List Step → List GivenArgs → ℕ → Plan
-raced_plan displays channels steps all until =
+-- the plan of these channels, repeats, steps and args, with the devices on these displays
+abbrev pub raced_plan : List ℕ → Option Repeats → List ChannelPlan → List Step → List GivenArgs → ℕ → Plan
+raced_plan displays repeats channels steps all until =
     record {
       displays = displays;
-      channels = map channel_of (map channel_view channels);
+      channels = map (channel_of repeats) (map channel_view channels);
       steps = map step_of steps;
       cooked = map cooked_of all;
       until = until;

@@ -8,6 +8,8 @@ ghost use Rattle.schedule.specs.Planned.{IsChannel as IsRunChannel};
 ghost use Rattle.replay_actors.specs.Session.{channel_of, step_of};
 ghost use Rattle.command_answers.specs.Plan.{IsPlanned};
 
+use dispatch_calls::Terms;
+use key_repeat::Repeats;
 use replay_actors::call_of;
 use schedule::{Channel, Plan, Step as RunStep};
 use session_plan::{ChannelPlan, Plan as Session, Step};
@@ -20,29 +22,49 @@ pub(crate) struct Planned {
     pub(crate) plan: Plan,
 }
 
-/// A channel without its name.
-fn run_channel(channel: &ChannelPlan) -> Channel
+/// What a channel of a session with these repeats is opened with.
+fn terms_of(channel: &ChannelPlan, repeats: &Option<Repeats>) -> Terms
+    ensures { result ≡ record { limit = channel.now.limit; repeats = repeats.now } }
+{
+    Terms {
+        limit: channel.limit,
+        repeats: *repeats,
+    }
+}
+
+/// A channel without its name, opened with these terms.
+fn run_channel(channel: &ChannelPlan, terms: Terms) -> Channel
     requires { IsChannel channel.now }
-    ensures value { run_channel result ≡ channel_of (channel_view channel.now) }
+    ensures value { run_channel result ≡ record {
+      terms = terms;
+      finishes = channel.now.finishes;
+      finish_after = channel.now.finish_after;
+    } }
     ensures valid { IsRunChannel result }
 {
     Channel {
-        limit: channel.limit,
+        terms,
         finishes: channel.finishes,
         finish_after: channel.finish_after,
     }
 }
 
-/// The channels of a run.
-fn run_channels(alloc: Global, channels: &[ChannelPlan]) -> Result<Vec<Channel>, AllocError>
+/// The channels of a run of a session with these repeats.
+fn run_channels(
+    alloc: Global,
+    channels: &[ChannelPlan],
+    repeats: &Option<Repeats>,
+) -> Result<Vec<Channel>, AllocError>
     requires { All IsChannel channels.now }
-    ensures value { IfOk result (λ v. map run_channel v.items ≡ map channel_of (map channel_view channels.now)) }
+    ensures value { IfOk result
+        (λ v. map run_channel v.items ≡ map (channel_of repeats.now) (map channel_view channels.now)) }
     ensures len { IfOk result (λ v. length v.items ≡ length channels.now) }
     ensures valid { IfOk result (λ v. All IsRunChannel v.items) }
 {
     let mut all = Vec::new(alloc);
     for channel in channels {
-        all.push(run_channel(channel))?;
+        let terms = terms_of(channel, repeats);
+        all.push(run_channel(channel, terms))?;
     }
     Ok(all)
 }
@@ -77,7 +99,7 @@ pub(crate) fn plan_run(alloc: Global, session: Session) -> Result<Planned, Alloc
 {
     let plan = Plan {
         displays: session.device_displays(),
-        channels: run_channels(alloc, &session.channels)?,
+        channels: run_channels(alloc, &session.channels, &session.repeats)?,
         steps: run_steps(alloc, session.steps)?,
         until: session.end,
     };

@@ -1,5 +1,6 @@
 //! `race`: the run of a session by threads, in the order that they take.
-ghost use Rattle.std.specs.Prelude.{◌≡◌, ◌+◌, ◌≤◌, ℕ, List, Ok, Err, length, map, IfOk, IfErr};
+ghost use Rattle.std.specs.Prelude.{◌≡◌, ◌+◌, ◌≤◌, ℕ, List, Option, Ok, Err, length, map, IfOk, IfErr};
+ghost use Rattle.key_repeat.specs.declared.delays.Repeats.{Repeats as RepeatsView};
 ghost use Rattle.command_words.specs.Command.{race};
 ghost use Rattle.command_words.specs.CommandView.{recorded_view};
 ghost use Rattle.raw_events.specs.declared.event.RawEvent.{RawEvent as Event};
@@ -23,6 +24,7 @@ use dispatch_core::Core;
 use given_run::Cooked;
 use input_service::Service;
 use input_types::{Args, Displays, Moment};
+use key_repeat::Repeats;
 use outside_io::Files;
 use raw_events::RawEvent;
 use replay_actors::{Lanes, RaceEnd, Start, open_channels, race_text, scripts_of};
@@ -35,7 +37,8 @@ use window_snapshot::mask_with;
 /// The mask of the channels whose owners finish what they receive. The first channel of the list has this number.
 fn finishing(number: u32, channels: &[ChannelPlan]) -> u64
     requires { (1 ≤ number) × (number + length channels.now ≤ 65) }
-    ensures { (c : ℕ) → mask_has result c ≡ finishes_from number (map channel_of (map channel_view channels.now)) c }
+    ensures { (repeats : Option RepeatsView) (c : ℕ)
+        → mask_has result c ≡ finishes_from number (map (channel_of repeats) (map channel_view channels.now)) c }
 {
     match channels {
         [first, rest @ ..] => {
@@ -69,8 +72,9 @@ fn lanes_of(
     all: Vec<Cooked>,
 ) -> Result<Lanes, AllocError>
     requires { length channels.now ≤ 64 }
-    ensures { IfOk result
-        (DoPlan (map channel_of (map channel_view channels.now)) (map step_of steps.items) (map cooked_of all.items)) }
+    ensures { (repeats : Option RepeatsView) → IfOk result
+        (DoPlan (map (channel_of repeats) (map channel_view channels.now)) (map step_of steps.items)
+        (map cooked_of all.items)) }
 {
     let finishing = finishing(1, channels);
     Ok(Lanes {
@@ -87,6 +91,7 @@ fn raced<R: Wait, K: FnOnce(Start) -> Result<RaceEnd, AllocError> + Drop>(
     alloc: Global,
     displays: &Displays,
     channels: &[ChannelPlan],
+    repeats: Option<Repeats>,
     steps: Vec<Step>,
     all: Vec<Cooked>,
     runner: K,
@@ -96,11 +101,11 @@ fn raced<R: Wait, K: FnOnce(Start) -> Result<RaceEnd, AllocError> + Drop>(
     ensures left { IfOk result (EndBy (λ s end. K.post runner s (Ok end))) }
     ensures seats { IfOk result (λ end. length end.script_seats.items ≡ 8) }
     ensures race { (until : ℕ)
-        → IfOk result (EndsRace (raced_plan displays.now channels.now steps.items all.items until)) }
+        → IfOk result (EndsRace (raced_plan displays.now repeats channels.now steps.items all.items until)) }
 {
     let core = Core::new(alloc, displays)?;
     let (service, mut seat) = Service::new(alloc, core)?;
-    open_channels(rt, &service, &mut seat, channels)?;
+    open_channels(rt, &service, &mut seat, channels, repeats)?;
     let lanes = lanes_of(alloc, channels, steps, all)?;
     runner(Start {
         service,
@@ -132,9 +137,10 @@ fn race_run<R: Wait, K: FnOnce(Start) -> Result<RaceEnd, AllocError> + Drop>(
     let Session {
         channels,
         steps,
+        repeats,
         ..
     } = session;
-    let end = raced(rt, alloc, &displays, &channels, steps, all, runner)?;
+    let end = raced(rt, alloc, &displays, &channels, repeats, steps, all, runner)?;
     let mut text = Vec::new(alloc);
     race_text(&channels, &end, &mut text)?;
     Ok(Pieces::of(alloc, text))

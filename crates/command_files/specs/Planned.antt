@@ -17,12 +17,13 @@ cooked_of g = record { moment = g.0; args = g.1 }
 abbrev pub given : PlanData → List RawEvent → List Cooked
 given p past = map cooked_of (reverse (cooked (plans_of p) past))
 
--- the plan of a session's run, whose args are not known yet: its devices on their displays, its channels and its steps, up to its end
+-- the plan of a session's run, whose args are not known yet: its devices on their displays, its channels with its
+-- repeats, and its steps, up to its end
 abbrev pub script_of : PlanData → Plan
 script_of p =
     record {
       displays = device_displays p.devices;
-      channels = map channel_of p.channels;
+      channels = map (channel_of p.repeats) p.channels;
       steps = map step_of p.steps;
       cooked = [];
       until = p.end;

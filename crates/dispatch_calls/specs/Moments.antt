@@ -5,7 +5,7 @@ use Rattle.dispatch_calls.specs.declared.call.Call.TheVariants.{Open, Windows, F
 
 -- the moment that a call carries, 0 if it has none
 abbrev pub moment_of : Call → ℕ
-moment_of (Open limit) = 0
+moment_of (Open terms) = 0
 moment_of (Windows now snapshot) = now
 moment_of (FocusOn now display channel) = now
 moment_of (Notify now args) = now

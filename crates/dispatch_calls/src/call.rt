@@ -3,15 +3,16 @@ ghost use Rattle.std.specs.Prelude.{◌≡◌};
 ghost use Rattle.dispatch_calls.specs.Moments.{moment_of};
 
 use crate::reply::Reply;
-use input_types::{Args, DeviceId, DisplayId, Limit, Moment};
+use crate::terms::Terms;
+use input_types::{Args, DeviceId, DisplayId, Moment};
 use window_snapshot::Snapshot;
 
 /// One call of the dispatcher. `now` is the time of the call, and advances the clock if it is later.
 #[derive(Drop)]
 pub enum Call {
-    /// Opens a channel, whose messages must be finished within the limit.
+    /// Opens a channel on these terms.
     Open {
-        limit: Limit,
+        terms: Terms,
     },
     /// Replaces the windows by these.
     Windows {

@@ -4,8 +4,8 @@
 //! replies:
 //!
 //! ```text
-//! Open { limit: 5000000 }                                               Opened(1)
-//! Open { limit: 5000000 }                                               Opened(2)
+//! Open { terms }                                                        Opened(1)
+//! Open { terms }                                                        Opened(2)
 //! Windows { now: 0, snapshot: [2 at [0, 0, 1080, 2400]] }               Done
 //! Notify { now: 1000, args: Motion(1 Down 0@540,1200) }                 Taken
 //! Pump { now: 1000 }                                                    Dispatched
@@ -20,7 +20,9 @@
 mod call;
 mod counts;
 mod reply;
+mod terms;
 
 pub use call::{Call, Entry};
 pub use counts::{Anr, Counts};
 pub use reply::Reply;
+pub use terms::Terms;

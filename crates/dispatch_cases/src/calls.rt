@@ -1,6 +1,7 @@
 //! Calls as they are spelled.
-use dispatch_calls::Call;
+use dispatch_calls::{Call, Terms};
 use input_types::{Args, Body, DeviceId, DisplayId, Limit, Message, Moment};
+use key_repeat::Repeats;
 use std::alloc::Global;
 use stream_text::StreamLine;
 use touch_region::{Rect, Region};
@@ -127,7 +128,10 @@ pub(crate) fn call(word: &[u8], numbers: &[u64]) -> Option<Call> {
 fn call_of_one(word: &[u8], a: u64) -> Option<Call> {
     match word {
         b"open" => Some(Call::Open {
-            limit: Limit::new(a)?,
+            terms: Terms {
+                limit: Limit::new(a)?,
+                repeats: Some(Repeats::android()),
+            },
         }),
         b"pump" => Some(Call::Pump {
             now: Moment::new(a)?,

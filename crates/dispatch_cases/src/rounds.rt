@@ -1,11 +1,12 @@
 //! How long a gesture takes.
 use crate::calls::windows;
-use dispatch_calls::{Call, Reply};
+use dispatch_calls::{Call, Reply, Terms};
 use dispatcher::Dispatcher;
 use input_types::{
     Args, DeviceId, Displays, Limit, Moment, Motion, MotionAction, Pixel, Pointer, PointerId,
     Pointers,
 };
+use key_repeat::Repeats;
 use std::alloc::{AllocError, Global};
 use std::io;
 use std::time::Instant;
@@ -134,9 +135,9 @@ fn round(
 }
 
 /// So many channels are opened.
-fn open(dispatcher: &mut Dispatcher, channels: u32, limit: Limit) -> Result<(), AllocError> {
+fn open(dispatcher: &mut Dispatcher, channels: u32, terms: Terms) -> Result<(), AllocError> {
     for _ in 0..channels {
-        make(dispatcher, &Call::Open { limit })?;
+        make(dispatcher, &Call::Open { terms })?;
     }
     Ok(())
 }
@@ -149,7 +150,8 @@ fn show(
     numbers: &[u64],
 ) -> Result<(), AllocError> {
     if let Some(limit) = Limit::new(5_000_000) {
-        open(dispatcher, channels, limit)?;
+        let repeats = Some(Repeats::android());
+        open(dispatcher, channels, Terms { limit, repeats })?;
     }
     match windows(alloc, numbers) {
         Some(call) => make(dispatcher, &call),

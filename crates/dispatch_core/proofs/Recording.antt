@@ -72,7 +72,7 @@ sound_of entries d n m r =
 
 -- calls on a channel that is not live reply Gone
 pub gone_of : (ds : List ℕ) (h : History) (call : Call) → AnswersGone h call (reply ds h call)
-gone_of ds h (Open limit) = tt
+gone_of ds h (Open terms) = tt
 gone_of ds h (Windows now snapshot) = tt
 gone_of ds h (FocusOn now display channel) = tt
 gone_of ds h (Notify now args) = tt
@@ -111,7 +111,7 @@ may_count ds items len capacity spare is r some =
 
 -- a call hands in at most one args
 pub one_in : (call : Call) → args_in call ≤ 1
-one_in (Open limit) = omega arith
+one_in (Open terms) = omega arith
 one_in (Windows now snapshot) = omega arith
 one_in (FocusOn now display channel) = omega arith
 one_in (Notify now args) = omega arith

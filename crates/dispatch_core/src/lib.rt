@@ -4,7 +4,7 @@
 //! order:
 //!
 //! ```text
-//! 0  Open { limit: 5000000 }                                       Opened(1)
+//! 0  Open { terms }                                                Opened(1)
 //! 0  Windows { now: 0, snapshot: [1 at [0, 0, 1080, 2400]] }       Done
 //! 0  Notify { now: 1000, args: Motion(1 Down 0@540,1200) }         Taken
 //! 0  Pump { now: 1000 }                                            Dispatched

@@ -3,12 +3,12 @@ use Rattle.std.specs.Prelude.{ℕ, ◌≡◌, List, [], ◌∷◌, ◌++◌, ref
 use Rattle.input_types.specs.declared.motion.MotionAction.TheVariants.{Down, Up, Move, Cancel, Outside, PointerDown, PointerUp}
 use Rattle.dispatch_calls.specs.declared.call.Call.{Call}
 use Rattle.dispatch_calls.specs.declared.call.Call.TheVariants.{Open, Windows, Tick}
-use Rattle.dispatch_history.proofs.Worked.{window, at, motion, moved, says, open_two, stream_of}
+use Rattle.dispatch_history.proofs.Worked.{usual, window, at, motion, moved, says, open_two, stream_of}
 
 -- Two fingers go down on one window, the first moves and then goes up.
 abbrev two_fingers : List Call
 two_fingers =
-    Open 5000000 ∷ Windows 0 (window 1 0 0 0 1080 2400 ∷ []) ∷ []
+    Open usual ∷ Windows 0 (window 1 0 0 0 1080 2400 ∷ []) ∷ []
     ++ moved 1000 Down 0 (at 0 100 200 ∷ []) ++ moved 1000 PointerDown 1 (at 0 100 200 ∷ at 1 300 400 ∷ [])
     ++ moved 2000 Move 0 (at 0 110 200 ∷ at 1 300 400 ∷ []) ++ moved 3000 PointerUp 0 (at 0 110 200 ∷ at 1 300 400 ∷ [])
 
@@ -77,7 +77,7 @@ the_other_holder_is_sent_moves = refl
 -- of the touched window 2, window 3 behind it.
 abbrev taps_outside : List Call
 taps_outside =
-    open_two ++ Open 5000000
+    open_two ++ Open usual
     ∷ Windows 0 (window 1 4 0 0 100 100 ∷ window 2 0 0 100 1080 2000 ∷ window 3 4 0 0 1080 2000 ∷ []) ∷ []
     ++ moved 1000 Down 0 (at 0 500 500 ∷ []) ++ moved 2000 Up 0 (at 0 500 500 ∷ [])
     ++ moved 3000 Down 0 (at 0 500 2200 ∷ []) ++ moved 4000 Up 0 (at 0 500 2200 ∷ [])

@@ -9,6 +9,7 @@ use Rattle.window_snapshot.specs.Named.{is_named, is_shown_on}
 use Rattle.window_snapshot.specs.Walls.{wall_on}
 use Rattle.dispatch_calls.specs.declared.call.Call.TheVariants.{Open, Windows, FocusOn, Notify, Pump, Tick, Receive, Finish, Pilfer, Remove}
 use Rattle.dispatch_calls.specs.declared.reply.Reply.{Reply}
+use Rattle.dispatch_calls.specs.declared.terms.Terms.{Terms}
 use Rattle.dispatch_calls.specs.declared.reply.Reply.TheVariants.{Opened, Named, Done}
 use Rattle.routing_rules.specs.Pairs.{Pair, has, has_any}
 use Rattle.routing_rules.specs.Taking.{takes}
@@ -78,9 +79,9 @@ remains ds x es w d a l n s =
 was_live : (es : List Effect) (w : ℕ) → able es w ≡ true → live (past_of es) w ≡ true
 was_live es w a = (and_parts (live (past_of es) w) (not (unresponsive es w)) a).0
 
-open_live : (limit : ℕ) (answer : Reply) (c : ℕ) (before : Bool) → before ≡ true → live_after (Open limit) answer c before ≡ true
-open_live limit (Opened k) c before e = or_right (c == k) before e
-open_live limit _ c before e = e
+open_live : (terms : Terms) (answer : Reply) (c : ℕ) (before : Bool) → before ≡ true → live_after (Open terms) answer c before ≡ true
+open_live terms (Opened k) c before e = or_right (c == k) before e
+open_live terms _ c before e = e
 
 remove_live : (ws : List Window) (s : Scene) (now k w d i : ℕ) (answer : Reply) (before : Bool) → before ≡ true
     → takes (taken s (step_of ws (Remove now k) answer None)) w d i ≡ false → live_after (Remove now k) answer w before ≡ true
@@ -175,11 +176,11 @@ holders ds ((Remove now k, answer) ∷ h) w d i x =
     let b = only_kept (mark (scene ds es) (step_of ws (Remove now k) answer None)) (marks es) w d i (remove_gives ws (scene ds es) now k w d i answer) x in
     let q = holders ds h w d i b.0 in
     remains ds (effect_of ds (Remove now k) answer None es) es w d q.0 (remove_live ws (scene ds es) now k w d i answer (live (past_of es) w) (was_live es w q.0) b.1) (refl) q.1
-holders ds ((Open limit, answer) ∷ h) w d i x =
+holders ds ((Open terms, answer) ∷ h) w d i x =
     let es = effects ds h in
     let b = only_kept (mark (scene ds es) NoOp) (marks es) w d i refl x in
     let q = holders ds h w d i b.0 in
-    remains ds (effect_of ds (Open limit) answer None es) es w d q.0 (open_live limit answer w (live (past_of es) w) (was_live es w q.0)) refl q.1
+    remains ds (effect_of ds (Open terms) answer None es) es w d q.0 (open_live terms answer w (live (past_of es) w) (was_live es w q.0)) refl q.1
 holders ds ((FocusOn now y c, answer) ∷ h) w d i x =
     let es = effects ds h in
     let b = only_kept (mark (scene ds es) NoOp) (marks es) w d i refl x in

@@ -6,12 +6,12 @@ use Rattle.input_types.specs.declared.key.KeyArgs.{KeyArgs}
 use Rattle.input_types.specs.declared.key.KeyMsg.{KeyMsg}
 use Rattle.input_types.specs.declared.message.Args.{Args}
 use Rattle.input_types.specs.declared.message.Args.TheVariants.{Motion as MotionArgs, Key as KeyOfDevice, Reset}
-use Rattle.key_repeat.specs.Due.{Sent, due_of, repeated}
+use Rattle.key_repeat.specs.Due.{Sent, due_by, repeated}
 use Rattle.dispatch_calls.specs.declared.call.Call.{Call}
 use Rattle.dispatch_calls.specs.declared.call.Call.TheVariants.{Open, Windows, FocusOn, Notify, Pump, Tick, Receive, Finish, Pilfer, Remove}
 use Rattle.dispatch_calls.specs.declared.reply.Reply.{Reply}
 use Rattle.dispatch_calls.specs.declared.reply.Reply.TheVariants.{Repeated, Idle}
-use Rattle.dispatch_history.specs.History.{History, clock, live}
+use Rattle.dispatch_history.specs.History.{History, clock, live, repeats_of}
 use Rattle.dispatch_history.specs.Queue.{inbound, args_of}
 use Rattle.dispatch_history.specs.Effect.{Effect, past_of, stream, dispatched}
 use Rattle.dispatch_history.specs.Effects.{effects}
@@ -129,7 +129,7 @@ no_keys ds ((call, answer) ∷ h) w n = by_call call (subst (λ past. live ((cal
         let o = args_of (Pump now) answer (inbound (past_of es)) in
         none_given (goes_down o) (is_target (past_of es) w && able es w) (loses_all ((Pump now, answer) ∷ past_of es) (past_of es) w) (filter (λ k. not (ends o k)) (keys es w))
         (dead_hears (is_target (past_of es) w) (live (past_of es) w) (unresponsive es w) q) (gone (Pump now) q)
-    by_call (Open limit) q = quiet (Open limit) q
+    by_call (Open terms) q = quiet (Open terms) q
     by_call (Windows now shown) q = quiet (Windows now shown) q
     by_call (FocusOn now y c) q = quiet (FocusOn now y c) q
     by_call (Notify now a) q = quiet (Notify now a) q
@@ -154,14 +154,14 @@ due_held ds h w d s at l y m e c q =
     let es = effects ds h in
     let p = is_key-parts d s m.key.key q in
     let same : w ≡ m.channel = eqb-true w m.channel c in
-    let any : list_any (same_key m.key.key) (keys es m.channel) ≡ true = is_held (list_any (same_key m.key.key) (keys es m.channel)) (ap (λ o. is_due (due_of (while_held es o)) at) (sym e) ∙ y) in
+    let any : list_any (same_key m.key.key) (keys es m.channel) ≡ true = is_held (list_any (same_key m.key.key) (keys es m.channel)) (ap (λ o. is_due (due_by (repeats_of (past_of es)) (while_held es o)) at) (sym e) ∙ y) in
     let k = any_held m.key.key.device m.key.key.scan (keys es m.channel) any in
     let held : held_key (keys es w) d s ≡ Some k.0 =
     ap (λ v. held_key (keys es v) d s) same ∙ ap₂ (λ u v. held_key (keys es m.channel) u v) p.0 p.1 ∙ k.1 in
     let newest : newest_key (stream es w) ≡ Some m.key = ap (λ v. newest_key (stream es v)) same ∙ last_key_law ds h m e in
     (k.0, held, (held_is (down_keys (dispatched es)) (keys es w) d s k.0 (all_held ds h w l) held).0, known_last d s (stream es w) ∙ newest_last d s m.key (stream es w) newest q)
   where
-    is_held : (b : Bool) → is_due (due_of (cond b (Some m) None)) at ≡ true → b ≡ true
+    is_held : (b : Bool) → is_due (due_by (repeats_of (past_of (effects ds h))) (cond b (Some m) None)) at ≡ true → b ≡ true
     is_held true e = refl
     is_held false e = absurd (true≢false (sym e))
 
@@ -188,7 +188,7 @@ step_knows ds call answer h w d s l n before =
         (live_keeps (is_target (past_of es) w) (live (past_of es) w) q)
         (λ k e. goes_down_new ds h w o k m.1 (λ v. dispatched_keep ds ((Pump now, answer) ∷ h) v m) e)
         (λ y. due_held ds h w d s (max now (clock (past_of es))) m.1 y) before
-    by_call (Open limit) m q = quiet (Open limit)
+    by_call (Open terms) m q = quiet (Open terms)
     by_call (Windows now shown) m q = quiet (Windows now shown)
     by_call (FocusOn now y c) m q = quiet (FocusOn now y c)
     by_call (Notify now a) m q = quiet (Notify now a)

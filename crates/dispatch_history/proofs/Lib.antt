@@ -29,3 +29,4 @@ pub mod WholeLaws
 pub mod Turns
 pub mod TurnLaws
 pub mod KeyPlaceLaws
+pub mod TermsLaws

@@ -5,7 +5,7 @@ use Rattle.input_types.specs.declared.motion.MotionAction.TheVariants.{Down, Up,
 use Rattle.dispatch_calls.specs.declared.call.Call.{Call}
 use Rattle.dispatch_calls.specs.declared.call.Call.TheVariants.{Open, Windows, Notify, Pump, Receive, Finish, Pilfer, Remove}
 use Rattle.dispatch_calls.specs.declared.reply.Reply.TheVariants.{Opened, Full, Done, Taken, Inconsistent, Dispatched, Gone, NotSpy, NothingHeld}
-use Rattle.dispatch_history.proofs.Worked.{window, window_of, rectangle, at, motion, cancelled, moved, says, open_two, stream_of, replies_of}
+use Rattle.dispatch_history.proofs.Worked.{usual, window, window_of, rectangle, at, motion, cancelled, moved, says, open_two, stream_of, replies_of}
 
 -- Channel 1 is a spy over the upper half of channel 2 (16 is SPY). One finger goes down under the spy, one below it; the spy pilfers;
 -- the first finger goes up, and a third comes down below the spy.
@@ -58,7 +58,7 @@ a_part_is_cancelled_pointer_by_pointer = refl
 -- A window disappears and comes back while a finger is on it.
 abbrev windows_go : List Call
 windows_go =
-    Open 5000000 ∷ Windows 0 (window 1 0 0 0 1080 2400 ∷ []) ∷ [] ++ moved 1000000 Down 0 (at 0 540 1200 ∷ [])
+    Open usual ∷ Windows 0 (window 1 0 0 0 1080 2400 ∷ []) ∷ [] ++ moved 1000000 Down 0 (at 0 540 1200 ∷ [])
     ++ Windows 1100000 [] ∷ Windows 1200000 (window 1 0 0 0 1080 2400 ∷ []) ∷ []
     ++ moved 1300000 Move 0 (at 0 540 1200 ∷ []) ++ moved 1400000 Up 0 (at 0 540 1200 ∷ []) ++ moved 1500000 Down 0 (at 0 540 1200 ∷ [])
 
@@ -71,7 +71,7 @@ coming_back_gives_nothing_back = refl
 -- A channel is removed while a finger is on its window.
 abbrev removed : List Call
 removed =
-    Open 5000000 ∷ Windows 0 (window 1 0 0 0 1080 2400 ∷ []) ∷ [] ++ moved 1000 Down 0 (at 0 540 1200 ∷ [])
+    Open usual ∷ Windows 0 (window 1 0 0 0 1080 2400 ∷ []) ∷ [] ++ moved 1000 Down 0 (at 0 540 1200 ∷ [])
     ++ Remove 2000 1 ∷ Receive 1 ∷ Finish 3000 1 1 ∷ Pilfer 3000 1 1 ∷ Remove 3000 1 ∷ []
 
 a_removed_channel_is_sent_nothing_more : stream_of removed 1 ≡ says 1 1000 (motion Down 0 (at 0 540 1200 ∷ [])) ∷ []
@@ -83,7 +83,7 @@ a_removed_channel_is_gone = refl
 -- Two fingers are down when the device loses events and is reset.
 abbrev reset : List Call
 reset =
-    Open 5000000 ∷ Windows 0 (window 1 0 0 0 1080 2400 ∷ []) ∷ [] ++ moved 1000 Down 0 (at 0 100 200 ∷ [])
+    Open usual ∷ Windows 0 (window 1 0 0 0 1080 2400 ∷ []) ∷ [] ++ moved 1000 Down 0 (at 0 100 200 ∷ [])
     ++ moved 1000 PointerDown 1 (at 0 100 200 ∷ at 1 300 400 ∷ []) ++ Notify 9000 (Reset 1) ∷ Pump 9000 ∷ []
     ++ Notify 9500 (MotionArgs (motion PointerUp 0 (at 0 100 200 ∷ at 1 300 400 ∷ []))) ∷ []
 
@@ -98,7 +98,7 @@ an_up_after_a_reset_is_refused = refl
 
 -- 64 channels are opened, and one of them is removed: its number is not used again.
 abbrev sixty_four : List Call
-sixty_four = replicate 64 (Open 5000000) ++ Remove 0 1 ∷ Open 5000000 ∷ []
+sixty_four = replicate 64 (Open usual) ++ Remove 0 1 ∷ Open usual ∷ []
 
 no_65th_channel : drop 63 (replies_of sixty_four) ≡ Opened 64 ∷ Done ∷ Full ∷ []
 no_65th_channel = refl

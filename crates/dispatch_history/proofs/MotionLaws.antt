@@ -9,6 +9,7 @@ use Rattle.input_types.specs.declared.message.Args.TheVariants.{Motion as Motion
 use Rattle.dispatch_calls.specs.declared.call.Call.{Call}
 use Rattle.dispatch_calls.specs.declared.call.Call.TheVariants.{Open, Windows, FocusOn, Notify, Pump, Tick, Receive, Finish, Pilfer, Remove}
 use Rattle.dispatch_calls.specs.declared.reply.Reply.{Reply}
+use Rattle.dispatch_calls.specs.declared.terms.Terms.{Terms}
 use Rattle.dispatch_calls.specs.declared.reply.Reply.TheVariants.{Opened, Full, Named, Done}
 use Rattle.dispatch_history.specs.History.{History, clock, live, live_after, opened, opened_after, origin, snapshot}
 use Rattle.dispatch_history.specs.Queue.{inbound, args_of}
@@ -47,7 +48,7 @@ removes_other ws (Tick now) _ args w before e = tt
 removes_other ws (Pilfer now c d) Done args w before e = tt
 removes_other ws (Pilfer now c d) _ args w before e = tt
 removes_other ws (Windows now shown) answer args w before e = tt
-removes_other ws (Open limit) answer args w before e = tt
+removes_other ws (Open terms) answer args w before e = tt
 removes_other ws (FocusOn now y c) answer args w before e = tt
 removes_other ws (Notify now a) answer args w before e = tt
 removes_other ws (Receive c) answer args w before e = tt
@@ -112,8 +113,8 @@ step_skips ds call answer es w d x n h =
 
 -- a channel that is not opened yet was sent nothing
 pub opened_mono : (call : Call) (answer : Reply) (n : ℕ) → n ≤ opened_after call answer n
-opened_mono (Open limit) (Opened k) n = omega arith
-opened_mono (Open limit) _ n = omega arith
+opened_mono (Open terms) (Opened k) n = omega arith
+opened_mono (Open terms) _ n = omega arith
 opened_mono _ answer n = omega arith
 
 pub unopened : (ds : List ℕ) (h : History) (w : ℕ) → Legal ds h → opened h < w → stream (effects ds h) w ≡ []
@@ -125,19 +126,19 @@ unopened ds ((call, answer) ∷ h) w l lt =
     silent_law ds call answer h w n ∙ unopened ds h w l.1 (omega (arith, opened_mono call answer (opened h), lt))
 
 -- a channel that a step makes live is the next one
-opens_next : (n w : ℕ) (limit : ℕ) (answer : Reply) (before : Bool) → before ≡ false → answer ≡ cond (nat_lt n 64) (Opened (n + 1)) Full
-    → live_after (Open limit) answer w before ≡ true → n < w
-opens_next n w limit answer before b r e =
+opens_next : (n w : ℕ) (terms : Terms) (answer : Reply) (before : Bool) → before ≡ false → answer ≡ cond (nat_lt n 64) (Opened (n + 1)) Full
+    → live_after (Open terms) answer w before ≡ true → n < w
+opens_next n w terms answer before b r e =
     elim (cases_cond (nat_lt n 64) (Opened (n + 1)) Full answer r) [
       | inl q ↦
-          elim (or_cases (w == n + 1) before (subst (λ a. live_after (Open limit) a w before ≡ true) q e))
+          elim (or_cases (w == n + 1) before (subst (λ a. live_after (Open terms) a w before ≡ true) q e))
           [ inl y ↦ let z : w ≡ n + 1 = eqb-true w (n + 1) y in omega (arith, z) | inr k ↦ absurd (both_ways before b k) ]
-      | inr q ↦ absurd (both_ways before b (subst (λ a. live_after (Open limit) a w before ≡ true) q e))
+      | inr q ↦ absurd (both_ways before b (subst (λ a. live_after (Open terms) a w before ≡ true) q e))
     ]
 
 pub new_channel : (ds : List ℕ) (call : Call) (answer : Reply) (h : History) (w : ℕ) → Legal ds ((call, answer) ∷ h) → live h w ≡ false → live ((call, answer) ∷ h) w ≡ true → opened h < w
-new_channel ds (Open limit) answer h w l n e =
-    opens_next (opened h) w limit answer (live h w) n
+new_channel ds (Open terms) answer h w l n e =
+    opens_next (opened h) w terms answer (live h w) n
     (subst (λ past. answer ≡ cond (nat_lt (opened past) 64) (Opened (opened past + 1)) Full) (effects_law ds h) l.0) e
 new_channel ds (Remove now k) answer h w l n e = absurd (both_ways (live h w) n (removed_live now k w answer (live h w) e))
 new_channel ds (Windows now shown) answer h w l n e = absurd (both_ways (live h w) n e)

@@ -5,12 +5,12 @@ use Rattle.input_types.specs.declared.motion.MotionAction.TheVariants.{Down, Up,
 use Rattle.dispatch_calls.specs.declared.call.Call.{Call}
 use Rattle.dispatch_calls.specs.declared.call.Call.TheVariants.{Open, Windows, Notify}
 use Rattle.dispatch_calls.specs.declared.reply.Reply.TheVariants.{Opened, Taken, Dispatched, Inconsistent}
-use Rattle.dispatch_history.proofs.Worked.{window, at, motion, cancelled, dispatch, moved, says, open_two, stream_of, replies_of}
+use Rattle.dispatch_history.proofs.Worked.{usual, window, at, motion, cancelled, dispatch, moved, says, open_two, stream_of, replies_of}
 
 -- Two fingers are down on one window. The second becomes a palm, the first moves, and then becomes a palm too.
 abbrev two_palms : List Call
 two_palms =
-    Open 5000000 ∷ Windows 0 (window 1 0 0 0 1080 2400 ∷ []) ∷ []
+    Open usual ∷ Windows 0 (window 1 0 0 0 1080 2400 ∷ []) ∷ []
     ++ moved 1000 Down 0 (at 0 100 200 ∷ []) ++ moved 1000 PointerDown 1 (at 0 100 200 ∷ at 1 300 400 ∷ [])
     ++ dispatch 2000 (MotionArgs (cancelled PointerUp 1 (at 0 100 200 ∷ at 1 300 400 ∷ [])))
     ++ moved 3000 Move 0 (at 0 100 200 ∷ []) ++ moved 4000 Cancel 0 (at 0 100 200 ∷ [])

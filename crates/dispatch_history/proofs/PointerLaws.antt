@@ -198,7 +198,7 @@ pub all_rise : (h : History) → AllRise h → RiseAll (accepted h)
 all_rise [] r = tt
 all_rise ((Notify now a, answer) ∷ h) r = rise_accepted now a answer (accepted h) r.0 (all_rise h r.1)
 all_rise ((Pump now, answer) ∷ h) r = all_rise h r.1
-all_rise ((Open limit, answer) ∷ h) r = all_rise h r.1
+all_rise ((Open terms, answer) ∷ h) r = all_rise h r.1
 all_rise ((Windows now shown, answer) ∷ h) r = all_rise h r.1
 all_rise ((FocusOn now y channel, answer) ∷ h) r = all_rise h r.1
 all_rise ((Tick now, answer) ∷ h) r = all_rise h r.1

@@ -76,7 +76,7 @@ stands ds ((Notify now a, answer) ∷ h) l =
     let state = down_on (past_of (effects ds h)) (device_of a) in
     notified (accepted h) (dispatches h) now (is_some (after_args state a)) (id_bits state.ids) (is_down state a) (dispatched (effects ds h)) a answer
     (stands ds h l.1) l.0
-stands ds ((Open limit, answer) ∷ h) l = stands ds h l.1
+stands ds ((Open terms, answer) ∷ h) l = stands ds h l.1
 stands ds ((Windows now shown, answer) ∷ h) l = stands ds h l.1
 stands ds ((FocusOn now y channel, answer) ∷ h) l = stands ds h l.1
 stands ds ((Tick now, answer) ∷ h) l = stands ds h l.1
@@ -127,7 +127,7 @@ keeps ds ((Notify now a, answer) ∷ h) l d =
     (subst (λ past. is_some (after_args (down_on past (device_of a)) a) ≡ true) (effects_law ds h) c))
     d
 keeps ds ((Pump now, answer) ∷ h) l d = keeps ds h l.1 d
-keeps ds ((Open limit, answer) ∷ h) l d = keeps ds h l.1 d
+keeps ds ((Open terms, answer) ∷ h) l d = keeps ds h l.1 d
 keeps ds ((Windows now shown, answer) ∷ h) l d = keeps ds h l.1 d
 keeps ds ((FocusOn now y channel, answer) ∷ h) l d = keeps ds h l.1 d
 keeps ds ((Tick now, answer) ∷ h) l d = keeps ds h l.1 d

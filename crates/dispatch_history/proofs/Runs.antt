@@ -13,14 +13,14 @@ use Rattle.dispatch_history.specs.Due.{anrs, counts}
 use Rattle.dispatch_history.specs.Plan.{Plan, ChannelOf, ScriptStep, Cooked, Line, ReaderLine, ScriptLine, PumpLine, ReceiveLine, FinishLine}
 use Rattle.dispatch_history.specs.Given.{given_calls}
 use Rattle.dispatch_history.specs.Ordered.{ordered, chosen, extend}
-use Rattle.dispatch_history.proofs.Worked.{one_display, window, at, motion, key, focused, keyed, says}
+use Rattle.dispatch_history.proofs.Worked.{usual, one_display, window, at, motion, key, focused, keyed, says}
 
 -- a channel with the defaults of a session, and one that never finishes
 abbrev by_default : ChannelOf
-by_default = record { limit = 5000000; finishes = true; finish_after = 0 }
+by_default = record { terms = usual; finishes = true; finish_after = 0 }
 
 abbrev never_finishes : ChannelOf
-never_finishes = record { limit = 5000000; finishes = false; finish_after = 0 }
+never_finishes = record { terms = usual; finishes = false; finish_after = 0 }
 
 abbrev scripted : Call → ScriptStep
 scripted call = record { lane = 1; call = call }

@@ -6,6 +6,7 @@ use Rattle.input_types.specs.declared.message.Body.{Body}
 use Rattle.dispatch_calls.specs.declared.call.Call.{Call}
 use Rattle.dispatch_calls.specs.declared.call.Call.TheVariants.{Open, Windows, FocusOn, Notify, Pump, Tick, Receive, Finish, Pilfer, Remove}
 use Rattle.dispatch_calls.specs.declared.reply.Reply.{Reply}
+use Rattle.dispatch_calls.specs.declared.terms.Terms.{Terms}
 use Rattle.dispatch_calls.specs.declared.reply.Reply.TheVariants.{Opened, Full, Done}
 use Rattle.dispatch_history.specs.History.{History, clock, live, live_after, opened, opened_after}
 use Rattle.dispatch_history.specs.Effect.{Effect, Outgoing, past_of, sent_to, sent_on, stream}
@@ -78,19 +79,19 @@ sent_within f (suc n) c one le =
     below_of ne = elim (cases_lt n c) [ inl lt ↦ absurd (ne (omega (arith, lt, le))) | inr ge ↦ ge ]
 
 -- the number of a live channel was handed out
-opened_live : (n k c : ℕ) (answer : Reply) (limit : ℕ) (before : Bool) → answer ≡ cond (nat_lt n 64) (Opened (n + 1)) Full
-    → (before ≡ true → (1 ≤ c) × (c ≤ n)) → live_after (Open limit) answer c before ≡ true → (1 ≤ c) × (c ≤ opened_after (Open limit) answer n)
-opened_live n k c answer limit before r old l =
+opened_live : (n k c : ℕ) (answer : Reply) (terms : Terms) (before : Bool) → answer ≡ cond (nat_lt n 64) (Opened (n + 1)) Full
+    → (before ≡ true → (1 ≤ c) × (c ≤ n)) → live_after (Open terms) answer c before ≡ true → (1 ≤ c) × (c ≤ opened_after (Open terms) answer n)
+opened_live n k c answer terms before r old l =
     elim (cases_cond (nat_lt n 64) (Opened (n + 1)) Full answer r) [
       | inl e ↦
-          subst (λ a. live_after (Open limit) a c before ≡ true → (1 ≤ c) × (c ≤ opened_after (Open limit) a n)) (sym e)
+          subst (λ a. live_after (Open terms) a c before ≡ true → (1 ≤ c) × (c ≤ opened_after (Open terms) a n)) (sym e)
           (λ h.
           elim (or_cases (c == n + 1) before h) [
             | inl q ↦ let p : c ≡ n + 1 = eqb-true c (n + 1) q in (omega (arith, p), omega (arith, p))
             | inr b ↦ ((old b).0, omega (arith, (old b).1))
           ])
           l
-      | inr e ↦ subst (λ a. live_after (Open limit) a c before ≡ true → (1 ≤ c) × (c ≤ opened_after (Open limit) a n)) (sym e) old l
+      | inr e ↦ subst (λ a. live_after (Open terms) a c before ≡ true → (1 ≤ c) × (c ≤ opened_after (Open terms) a n)) (sym e) old l
     ]
 
 pub removed_live : (now k c : ℕ) (answer : Reply) (before : Bool) → live_after (Remove now k) answer c before ≡ true → before ≡ true
@@ -99,8 +100,8 @@ removed_live now k c _ before e = e
 
 pub live_law : LiveLaw
 live_law ds [] c l e = absurd (true≢false (sym e))
-live_law ds ((Open limit, answer) ∷ h) c l e =
-    opened_live (opened h) 0 c answer limit (live h c)
+live_law ds ((Open terms, answer) ∷ h) c l e =
+    opened_live (opened h) 0 c answer terms (live h c)
     (subst (λ past. answer ≡ cond (nat_lt (opened past) 64) (Opened (opened past + 1)) Full) (effects_law ds h) l.0)
     (λ b. live_law ds h c l.1 b) e
 live_law ds ((Remove now k, answer) ∷ h) c l e = live_law ds h c l.1 (removed_live now k c answer (live h c) e)

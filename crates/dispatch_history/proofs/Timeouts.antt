@@ -10,10 +10,10 @@ use Rattle.dispatch_calls.specs.declared.reply.Reply.TheVariants.{Opened, Done, 
 use Rattle.dispatch_history.specs.History.{clock}
 use Rattle.dispatch_history.specs.Delivery.{able, delivery}
 use Rattle.dispatch_history.specs.Legal.{run, replay}
-use Rattle.dispatch_history.proofs.Worked.{one_display, window, at, motion, moved, says, stream_of, replies_of}
+use Rattle.dispatch_history.proofs.Worked.{usual, one_display, window, at, motion, moved, says, stream_of, replies_of}
 
 abbrev whole : List Call
-whole = Open 5000000 ∷ Windows 0 (window 1 0 0 0 1080 2400 ∷ []) ∷ []
+whole = Open usual ∷ Windows 0 (window 1 0 0 0 1080 2400 ∷ []) ∷ []
 
 abbrev finger : ℕ → ℕ → ℕ → Message
 finger seq now x = says seq now (motion Down 0 (at 0 x 1200 ∷ []))
@@ -108,18 +108,18 @@ removed_after_the_first_message = refl
 -- A spy that was reported before it pilfers holds nothing.
 abbrev named_spy : List Call
 named_spy =
-    Open 5000000 ∷ Windows 0 (window 1 16 0 0 1080 2400 ∷ []) ∷ [] ++ moved 0 Down 0 (at 0 540 1200 ∷ []) ++ Tick 5000000 ∷ Pilfer 5000000 1 1 ∷ []
+    Open usual ∷ Windows 0 (window 1 16 0 0 1080 2400 ∷ []) ∷ [] ++ moved 0 Down 0 (at 0 540 1200 ∷ []) ++ Tick 5000000 ∷ Pilfer 5000000 1 1 ∷ []
 
 a_named_spy_has_nothing_to_pilfer : drop 4 (replies_of named_spy) ≡ Named 1 ∷ NothingHeld ∷ []
 a_named_spy_has_nothing_to_pilfer = refl
 
 -- Two channels and no window. A motion of a finger that is not down is refused, but still advances the clock.
 a_refused_call_raises_the_clock :
-    clock (replay one_display (reverse (Open 5000000 ∷ Open 5000000 ∷ Notify 9000000 (MotionArgs (motion Move 0 (at 0 1 1 ∷ []))) ∷ []))) ≡ 9000000
+    clock (replay one_display (reverse (Open usual ∷ Open usual ∷ Notify 9000000 (MotionArgs (motion Move 0 (at 0 1 1 ∷ []))) ∷ []))) ≡ 9000000
 a_refused_call_raises_the_clock = refl
 
 a_move_of_nothing_is_refused :
-    replies_of (Open 5000000 ∷ Open 5000000 ∷ Notify 9000000 (MotionArgs (motion Move 0 (at 0 1 1 ∷ []))) ∷ Open 5000000 ∷ [])
+    replies_of (Open usual ∷ Open usual ∷ Notify 9000000 (MotionArgs (motion Move 0 (at 0 1 1 ∷ []))) ∷ Open usual ∷ [])
     ≡ Opened 1 ∷ Opened 2 ∷ Inconsistent 0 false ∷ Opened 3 ∷ []
 a_move_of_nothing_is_refused = refl
 

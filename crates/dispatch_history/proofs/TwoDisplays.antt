@@ -9,7 +9,7 @@ use Rattle.input_types.specs.declared.pointer.Pointer.{Pointer}
 use Rattle.window_snapshot.specs.declared.window.Window.{Window}
 use Rattle.dispatch_calls.specs.declared.call.Call.{Call}
 use Rattle.dispatch_calls.specs.declared.call.Call.TheVariants.{Open, Windows, FocusOn}
-use Rattle.dispatch_history.proofs.Worked.{window, on, of, at, motion, dispatch, moved, says, focused, keyed, open_two, two_displays, stream_on}
+use Rattle.dispatch_history.proofs.Worked.{usual, window, on, of, at, motion, dispatch, moved, says, focused, keyed, open_two, two_displays, stream_on}
 
 -- the windows A of channel 1 and B of channel 2, each as large as its display
 abbrev a : Window
@@ -74,7 +74,7 @@ and_the_window_on_the_first_display_is_sent_nothing = refl
 -- A focused window moves from display 0 to display 1 in the middle of a gesture.
 abbrev moves_over : List Call
 moves_over =
-    Open 5000000 ∷ Windows 0 (a ∷ []) ∷ FocusOn 0 0 (Some 1) ∷ [] ++ pressed 1000 true ++ moved 2000 Down 0 (at 0 540 1200 ∷ [])
+    Open usual ∷ Windows 0 (a ∷ []) ∷ FocusOn 0 0 (Some 1) ∷ [] ++ pressed 1000 true ++ moved 2000 Down 0 (at 0 540 1200 ∷ [])
     ++ Windows 3000 (on 1 a ∷ []) ∷ [] ++ moved 4000 Move 0 (at 0 540 1200 ∷ []) ++ moved 5000 Up 0 (at 0 540 1200 ∷ [])
     ++ pressed 6000 false ++ moved_2 7000 Down (at 0 10 20 ∷ [])
 
@@ -88,7 +88,7 @@ it_loses_its_pointer_and_the_focus_there_and_does_not_get_it_here = refl
 -- It was requested on both displays: it is focused before and after, and is sent nothing about it.
 abbrev requested_on_both : List Call
 requested_on_both =
-    Open 5000000 ∷ Windows 0 (a ∷ []) ∷ FocusOn 0 1 (Some 1) ∷ FocusOn 0 0 (Some 1) ∷ Windows 3000 (on 1 a ∷ []) ∷ []
+    Open usual ∷ Windows 0 (a ∷ []) ∷ FocusOn 0 1 (Some 1) ∷ FocusOn 0 0 (Some 1) ∷ Windows 3000 (on 1 a ∷ []) ∷ []
 
 a_window_that_is_focused_on_the_one_and_then_on_the_other_is_sent_once :
     stream_on two_displays requested_on_both 1 ≡ focused 1 0 true ∷ []
@@ -114,7 +114,7 @@ so_has_the_other = refl
 -- point there.
 abbrev beside_another_display : List Call
 beside_another_display =
-    open_two ++ Open 5000000 ∷ Windows 0 (on 1 (window 2 16 0 0 1080 2400) ∷ on 1 (window 3 4 0 0 100 100) ∷ a ∷ []) ∷ []
+    open_two ++ Open usual ∷ Windows 0 (on 1 (window 2 16 0 0 1080 2400) ∷ on 1 (window 3 4 0 0 100 100) ∷ a ∷ []) ∷ []
     ++ moved 1000 Down 0 (at 0 540 500 ∷ []) ++ moved 2000 Up 0 (at 0 540 500 ∷ [])
 
 the_window_of_the_display_has_the_tap :
@@ -131,7 +131,7 @@ a_watcher_on_another_display_is_sent_nothing = refl
 -- on one display both are sent
 the_spy_is_sent_on_one_display :
     stream_on two_displays
-    (open_two ++ Open 5000000 ∷ Windows 0 (window 2 16 0 0 1080 2400 ∷ window 3 4 0 0 100 100 ∷ a ∷ []) ∷ []
+    (open_two ++ Open usual ∷ Windows 0 (window 2 16 0 0 1080 2400 ∷ window 3 4 0 0 100 100 ∷ a ∷ []) ∷ []
     ++ moved 1000 Down 0 (at 0 540 500 ∷ []))
     2
     ≡ says 1 1000 (motion Down 0 (at 0 540 500 ∷ [])) ∷ []
@@ -139,7 +139,7 @@ the_spy_is_sent_on_one_display = refl
 
 so_is_the_watcher :
     stream_on two_displays
-    (open_two ++ Open 5000000 ∷ Windows 0 (window 2 16 0 0 1080 2400 ∷ window 3 4 0 0 100 100 ∷ a ∷ []) ∷ []
+    (open_two ++ Open usual ∷ Windows 0 (window 2 16 0 0 1080 2400 ∷ window 3 4 0 0 100 100 ∷ a ∷ []) ∷ []
     ++ moved 1000 Down 0 (at 0 540 500 ∷ []))
     3
     ≡ says 1 1000 (motion Outside 0 (at 0 540 500 ∷ [])) ∷ []

@@ -8,12 +8,12 @@ use Rattle.dispatch_calls.specs.declared.call.Call.TheVariants.{Open, Windows, F
 use Rattle.dispatch_history.specs.Effect.{stream}
 use Rattle.dispatch_history.specs.Known.{known_state}
 use Rattle.dispatch_history.specs.Legal.{run}
-use Rattle.dispatch_history.proofs.Worked.{window, of, at, motion, dispatch, moved, says, key, focused, keyed, one_display, stream_of}
+use Rattle.dispatch_history.proofs.Worked.{usual, window, of, at, motion, dispatch, moved, says, key, focused, keyed, one_display, stream_of}
 
 -- devices 1 and 2 touch the window, which is focused while the key is held
 abbrev while_held : List Call
 while_held =
-    Open 5000000 ∷ Windows 0 (window 1 0 0 0 1080 2400 ∷ []) ∷ FocusOn 0 0 (Some 1) ∷ []
+    Open usual ∷ Windows 0 (window 1 0 0 0 1080 2400 ∷ []) ∷ FocusOn 0 0 (Some 1) ∷ []
     ++ moved 1000 Down 0 (at 0 100 200 ∷ []) ++ dispatch 2000 (KeyOfDevice (key 30 29 true))
     ++ dispatch 3000 (MotionArgs (of 2 (motion Down 0 (at 0 300 400 ∷ []))))
     ++ moved 4000 PointerDown 1 (at 0 100 200 ∷ at 1 500 600 ∷ []) ++ Pump 502000 ∷ []

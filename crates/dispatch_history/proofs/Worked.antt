@@ -1,6 +1,6 @@
 -- Windows, motions, calls and messages for the worked examples. Lists of calls and messages are in order here, oldest
 -- first.
-use Rattle.std.specs.Prelude.{ℕ, pos, Bool, List, [], ◌∷◌, map, reverse, replicate}
+use Rattle.std.specs.Prelude.{ℕ, pos, Bool, List, [], ◌∷◌, map, reverse, replicate, Some}
 use Rattle.touch_region.specs.declared.rectangle.Rect.{Rect}
 use Rattle.window_snapshot.specs.declared.occlusion.Occlusion.TheVariants.{Block}
 use Rattle.window_snapshot.specs.declared.window.Window.{Window}
@@ -15,6 +15,8 @@ use Rattle.input_types.specs.declared.pointer.Pointer.{Pointer}
 use Rattle.dispatch_calls.specs.declared.call.Call.{Call}
 use Rattle.dispatch_calls.specs.declared.call.Call.TheVariants.{Open, Notify, Pump}
 use Rattle.dispatch_calls.specs.declared.reply.Reply.{Reply}
+use Rattle.dispatch_calls.specs.declared.terms.Terms.{Terms}
+use Rattle.key_repeat.specs.Due.{android_delays}
 use Rattle.dispatch_history.specs.Effect.{stream}
 use Rattle.dispatch_history.specs.Legal.{run, replay}
 
@@ -71,9 +73,13 @@ on y v = record v { display = y }
 abbrev pub of : ℕ → Motion → Motion
 of d m = record m { device = d }
 
+-- what channels are opened with unless a row says otherwise: a limit of five seconds, and Android's repeats
+abbrev pub usual : Terms
+usual = record { limit = 5000000; repeats = Some android_delays }
+
 -- channels 1 and 2 are opened
 abbrev pub open_two : List Call
-open_two = Open 5000000 ∷ Open 5000000 ∷ []
+open_two = Open usual ∷ Open usual ∷ []
 
 -- all devices are on display 0; and device 2 is on display 1
 abbrev pub one_display : List ℕ

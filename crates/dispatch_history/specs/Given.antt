@@ -6,7 +6,7 @@ use Rattle.dispatch_history.specs.Plan.{Plan, ChannelOf, ScriptStep, Cooked, Lin
 
 -- each channel is opened
 abbrev pub opens : List ChannelOf → List Call
-opens cs = map (λ c. Open c.limit) cs
+opens cs = map (λ c. Open c.terms) cs
 
 -- the next step of a lane
 abbrev pub next_of_lane : ℕ → List ScriptStep → Option Call

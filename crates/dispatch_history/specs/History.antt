@@ -1,12 +1,14 @@
 -- A history of the dispatcher: its calls with their replies, newest first. The tail is what came before the last step.
-use Rattle.std.specs.Prelude.{ℕ, suc, max, Bool, false, not, ◌==◌, ◌&&◌, ◌||◌, List, [], ◌∷◌, if◌then◌else◌}
+use Rattle.std.specs.Prelude.{ℕ, suc, max, Bool, false, not, ◌==◌, ◌&&◌, ◌||◌, List, [], ◌∷◌, Option, None, if◌then◌else◌}
 use Rattle.input_types.specs.declared.axis.Pixel.{Pixel}
 use Rattle.window_snapshot.specs.declared.window.Window.{Window}
 use Rattle.window_snapshot.specs.Named.{origin_of, is_shown_on}
+use Rattle.key_repeat.specs.declared.delays.Repeats.{Repeats}
 use Rattle.dispatch_calls.specs.declared.call.Call.{Call}
 use Rattle.dispatch_calls.specs.declared.call.Call.TheVariants.{Open, Windows, Receive, Finish, Remove}
 pub use Rattle.dispatch_calls.specs.Moments.{moment_of}
 use Rattle.dispatch_calls.specs.declared.reply.Reply.{Reply}
+use Rattle.dispatch_calls.specs.declared.terms.Terms.{Terms}
 use Rattle.dispatch_calls.specs.declared.reply.Reply.TheVariants.{Opened, Done, Got}
 use Rattle.window_snapshot.specs.Origins.{corner, or_origin}
 
@@ -21,7 +23,7 @@ clock (e ∷ h) = max (moment_of e.0) (clock h)
 
 -- a step that opens a channel makes one more
 abbrev pub opened_after : Call → Reply → ℕ → ℕ
-opened_after (Open limit) (Opened k) before = suc before
+opened_after (Open terms) (Opened k) before = suc before
 opened_after call reply before = before
 
 -- how many channels were opened; their numbers run from 1 to this
@@ -31,7 +33,7 @@ opened (e ∷ h) = opened_after e.0 e.1 (opened h)
 
 -- how a step changes what is live: it opens or removes a channel, and leaves the others as before
 abbrev pub live_after : Call → Reply → ℕ → Bool → Bool
-live_after (Open limit) (Opened k) c before = c == k || before
+live_after (Open terms) (Opened k) c before = c == k || before
 live_after (Remove now k) Done c before = not (c == k) && before
 live_after call reply c before = before
 
@@ -40,15 +42,27 @@ abbrev pub live : History → ℕ → Bool
 live [] c = false
 live (e ∷ h) c = live_after e.0 e.1 c (live h c)
 
--- the call that opens a channel gives its limit
-abbrev pub limit_after : Call → Reply → ℕ → ℕ → ℕ
-limit_after (Open limit) (Opened k) c before = if c == k then limit else before
-limit_after call reply c before = before
+-- what is known of a channel that was never opened
+abbrev pub no_terms : Terms
+no_terms = record { limit = 0; repeats = None }
+
+-- the call that opens a channel says on which terms
+abbrev pub terms_after : Call → Reply → ℕ → Terms → Terms
+terms_after (Open terms) (Opened k) c before = if c == k then terms else before
+terms_after call reply c before = before
+
+-- the terms on which a channel was opened
+abbrev pub terms_of : History → ℕ → Terms
+terms_of [] c = no_terms
+terms_of (e ∷ h) c = terms_after e.0 e.1 c (terms_of h c)
 
 -- how long the owner of a channel may leave a message unfinished
 abbrev pub limit_of : History → ℕ → ℕ
-limit_of [] c = 0
-limit_of (e ∷ h) c = limit_after e.0 e.1 c (limit_of h c)
+limit_of h c = (terms_of h c).limit
+
+-- when a key that the window of a channel holds is repeated, if at all
+abbrev pub repeats_of : History → ℕ → Option Repeats
+repeats_of h c = (terms_of h c).repeats
 
 -- a new snapshot replaces the last one
 abbrev pub windows_after : Call → List Window → List Window

@@ -11,9 +11,9 @@ use Rattle.dispatch_calls.specs.declared.call.Call.{Call}
 use Rattle.dispatch_calls.specs.declared.call.Call.TheVariants.{Pump}
 use Rattle.dispatch_calls.specs.declared.reply.Reply.{Reply}
 use Rattle.dispatch_calls.specs.declared.reply.Reply.TheVariants.{Repeated}
-use Rattle.key_repeat.specs.Due.{Sent, due_of, repeated}
-use Rattle.dispatch_history.specs.History.{History, clock}
-use Rattle.dispatch_history.specs.Effect.{Effect, Outgoing}
+use Rattle.key_repeat.specs.Due.{Sent, due_by, repeated}
+use Rattle.dispatch_history.specs.History.{History, clock, repeats_of}
+use Rattle.dispatch_history.specs.Effect.{Effect, Outgoing, past_of}
 use Rattle.dispatch_history.specs.Keys.{same_key, ends, keys}
 
 -- a key goes down or up as its device reports
@@ -52,9 +52,10 @@ abbrev pub while_held : List Effect → Option Sent → Option Sent
 while_held es None = None
 while_held es (Some s) = if list_any (same_key s.key.key) (keys es s.channel) then Some s else None
 
--- the moment at which the last key message must be repeated, if ever: it is a down, and its window still holds the key
+-- the moment at which the last key message must be repeated, if ever: it is a down, its window still holds the key, and
+-- keys are repeated for its channel
 abbrev pub repeat_due : List Effect → Option ℕ
-repeat_due es = due_of (while_held es (last_key es))
+repeat_due es = due_by (repeats_of (past_of es)) (while_held es (last_key es))
 
 -- a pump that repeats a key sends its window the same down with the next repeat number
 abbrev pub repeat_sent : Call → Reply → Option Sent → ℕ → List KeyMsg

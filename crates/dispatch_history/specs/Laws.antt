@@ -9,7 +9,7 @@ use Rattle.dispatch_calls.specs.declared.reply.Reply.{Reply}
 use Rattle.dispatch_calls.specs.declared.reply.Reply.TheVariants.{Done, Gone}
 use Rattle.input_types.specs.StreamRule.{stream_state, is_well_formed}
 use Rattle.input_types.specs.DeviceRule.{device_state}
-use Rattle.dispatch_history.specs.History.{History, clock, live, opened, snapshot}
+use Rattle.dispatch_history.specs.History.{History, clock, live, opened, snapshot, terms_of}
 use Rattle.dispatch_history.specs.Queue.{accepted, inbound}
 use Rattle.dispatch_history.specs.PointerOf.{PointerOf, IsDown, AllRise}
 use Rattle.dispatch_history.specs.Effect.{Effect, past_of, stream, dispatched, sent_on, sent_down, sent_focus, down_ids, is_key_down}
@@ -170,6 +170,12 @@ abbrev pub LastKeyLaw : Type 0
 LastKeyLaw =
     (displays : List ℕ) (h : History) (last : Sent)
     → last_key (effects displays h) ≡ Some last → newest_key (stream (effects displays h) last.channel) ≡ Some last.key
+
+-- The terms of a channel are settled when it is opened: a step leaves those of each channel that was opened before.
+abbrev pub TermsLaw : Type 0
+TermsLaw =
+    (displays : List ℕ) (call : Call) (answer : Reply) (h : History) (c : ℕ)
+    → Legal displays ((call, answer) ∷ h) → c ≤ opened h → terms_of ((call, answer) ∷ h) c ≡ terms_of h c
 
 -- The stream of a live channel is well-formed, and tells its owner what its window holds: exactly the ids and the
 -- keys that are down, and whether it is focused.

@@ -2,11 +2,11 @@
 use Rattle.std.specs.Prelude.{ℕ, Bool, List}
 use Rattle.input_types.specs.declared.message.Args.{Args}
 use Rattle.dispatch_calls.specs.declared.call.Call.{Call}
+use Rattle.dispatch_calls.specs.declared.terms.Terms.{Terms}
 
--- a channel: how long its owner may leave a message unfinished, whether it finishes messages, and how long after it
--- received them
+-- a channel: what it is opened with, whether its owner finishes messages, and how long after it received them
 pub record ChannelOf : Type 0 where
-  pub limit : ℕ
+  pub terms : Terms
   pub finishes : Bool
   pub finish_after : ℕ
 

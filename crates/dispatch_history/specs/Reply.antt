@@ -75,7 +75,7 @@ pilfer_reply es c d =
 
 -- the reply to a call after a history with these effects
 abbrev pub reply_to : List Effect → Call → Reply
-reply_to es (Open limit) = open_reply (opened (past_of es))
+reply_to es (Open terms) = open_reply (opened (past_of es))
 reply_to es (Windows now shown) = Done
 reply_to es (FocusOn now display channel) = Done
 reply_to es (Notify now args) = notify_reply (down_on (past_of es) (device_of args)) args

@@ -1,5 +1,5 @@
 //! Proved facts about histories. Each function has the laws as its clauses, and does nothing.
-ghost use Rattle.dispatch_history.specs.Laws.{LegalLast, LegalMore, LegalUnique, ReplayLaw, LegalReplay, EffectsLaw, UnresponsiveStep, AbleStep, OrderedSound, OrderedComplete, OrderedUnique, QueueLaw, DeviceLaw, LiveLaw, StreamStep, SilentLaw, OnePointer, HolderLaw, FitLaw, MotionsLaw, MotionsComeLaw, FocusLaw, FocusComesLaw, KeysLaw, KeysComeLaw, HeldKeyLaw, LastKeyLaw, WholeLaw, WellFormedLaw, RemovedLaw, RemovedStateLaw, GoneLaw, NumbersLaw, TurnsLaw, TurnsComeLaw, KeyPlacesLaw, KeysDownLaw};
+ghost use Rattle.dispatch_history.specs.Laws.{LegalLast, LegalMore, LegalUnique, ReplayLaw, LegalReplay, EffectsLaw, UnresponsiveStep, AbleStep, OrderedSound, OrderedComplete, OrderedUnique, QueueLaw, DeviceLaw, LiveLaw, StreamStep, SilentLaw, OnePointer, HolderLaw, FitLaw, MotionsLaw, MotionsComeLaw, FocusLaw, FocusComesLaw, KeysLaw, KeysComeLaw, HeldKeyLaw, LastKeyLaw, TermsLaw, WholeLaw, WellFormedLaw, RemovedLaw, RemovedStateLaw, GoneLaw, NumbersLaw, TurnsLaw, TurnsComeLaw, KeyPlacesLaw, KeysDownLaw};
 
 /// A list of calls has exactly one legal history, its replay, and each step of it has the reply that the history
 /// before it requires.
@@ -53,12 +53,14 @@ pub fn focusing()
 {}
 
 /// The messages of each key in a stream follow the rule, and leave down exactly the keys that the window holds, with
-/// their next repeat numbers. The last message of a held key is the one that a cancel or a repeat is made from.
+/// their next repeat numbers. The last message of a held key is the one that a cancel or a repeat is made from. The
+/// terms of a channel are settled when it is opened.
 pub fn keys()
     ensures live { KeysLaw }
     ensures each { KeysComeLaw }
     ensures held { HeldKeyLaw }
     ensures last { LastKeyLaw }
+    ensures terms { TermsLaw }
 {}
 
 /// Who holds a key: some step gave it, and no later one took it. The list, computed step by step, says exactly this.

@@ -3,6 +3,7 @@ pub mod QueueLaws
 pub mod ShownLaws
 pub mod Pointed
 pub mod Inputs
+pub mod Repeating
 pub mod Knowing
 pub mod Answering
 pub mod Starting

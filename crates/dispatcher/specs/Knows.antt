@@ -3,7 +3,7 @@ use Rattle.std.specs.Prelude.{◌≡◌, ℕ, Bool, true, List, Option}
 use Rattle.touch_state.specs.Touches.{Touches}
 use Rattle.dispatcher.specs.CancelSynthesis.Tracked.{Tracked}
 use Rattle.focus_resolver.specs.Resolver.{FocusState}
-use Rattle.key_repeat.specs.Due.{Sent}
+use Rattle.key_repeat.specs.Due.{Sent, due_by}
 use Rattle.dispatch_calls.specs.declared.call.Call.{Call}
 use Rattle.dispatch_calls.specs.declared.reply.Reply.{Reply}
 use Rattle.dispatch_history.specs.History.{live, clock}
@@ -11,7 +11,7 @@ use Rattle.dispatch_history.specs.Effect.{Effect, past_of}
 use Rattle.dispatch_history.specs.Effects.{step, said_at}
 use Rattle.dispatch_history.specs.PointerOf.{AllRise}
 use Rattle.dispatcher.specs.DispatchTables.Lawful.{Lawful}
-use Rattle.dispatcher.specs.DispatchTables.Delivery.{Delivery, DeliveryIs, GoesOn}
+use Rattle.dispatcher.specs.DispatchTables.Delivery.{Delivery, DeliveryIs, GoesOn, repeats_kept}
 use Rattle.dispatcher.specs.KeyTables.Focused.{FocusIs}
 use Rattle.dispatcher.specs.KeyTables.Repeats.{RepeatIs}
 use Rattle.dispatcher.specs.Queue.{Queue, QueueIs, QueueGoes}
@@ -32,6 +32,10 @@ pub record Kept : Type 0 where
   pub inputs : ℕ → Tracked
   pub focus : FocusState
   pub repeat : Option Sent
+
+-- when the last key message must be repeated, by what is kept
+abbrev pub due_again : Kept → Option ℕ
+due_again k = due_by (repeats_kept k.delivery) k.repeat
 
 -- what is kept of keys: the focus, and the last key message
 pub record KeyingIs (es : List Effect) (focus : FocusState) (repeat : Option Sent) : Type 0 where

@@ -30,6 +30,7 @@ pub mod Opening
 pub mod Roomy
 pub mod Past
 pub mod MovedOn
+pub mod Down
 pub mod InboundArgs
 pub mod CancelSynthesis
 pub mod InputChannel

@@ -4,7 +4,6 @@ use Rattle.input_types.specs.Displays.{device_display}
 use Rattle.window_snapshot.specs.Mask.{mask_has}
 use Rattle.dispatcher.specs.AnrTracker.Due.{IsFirst}
 use Rattle.dispatcher.specs.InputChannel.State.{ChannelState, oldest_of}
-use Rattle.key_repeat.specs.Due.{due_of}
 use Rattle.dispatcher.specs.CancelSynthesis.Tracked.{pointers_of}
 use Rattle.routing_rules.specs.Marks.{held, since, pilfering}
 use Rattle.routing_rules.specs.Pairs.{has, has_any}
@@ -24,7 +23,7 @@ use Rattle.dispatcher.specs.DispatchTables.Delivery.{noted_gone}
 use Rattle.dispatcher.specs.DispatchTables.Dues.{due_moment, due_pair}
 use Rattle.dispatcher.specs.DispatchChannels.Table.{Table, opened, channel_of, input_of, with_channel, but_for_room, due_moment as due_in_table}
 use Rattle.dispatcher.specs.DispatchChannels.Changes.{counts_in}
-use Rattle.dispatcher.specs.Knows.{Kept, KeptStandsFor}
+use Rattle.dispatcher.specs.Knows.{Kept, KeptStandsFor, due_again}
 use Rattle.dispatcher.specs.Staying.{delivery_of}
 
 -- all that is kept but for the channels is the same
@@ -117,7 +116,7 @@ ReadsChannelsLaw =
 -- what is read of the clock and of repeats
 pub record ReadsMoments (es : List Effect) (k : Kept) : Type 0 where
   pub clock_is : k.queue.clock ≡ clock (past_of es)
-  pub repeat_is : due_of k.repeat ≡ repeat_due es
+  pub repeat_is : due_again k ≡ repeat_due es
 
 -- The clock, and when a repeat is due.
 abbrev pub ReadsMomentsLaw : Type 0

@@ -6,7 +6,6 @@ use Rattle.window_snapshot.specs.Mask.{mask_has}
 use Rattle.window_snapshot.specs.Window.{is_spy}
 use Rattle.dispatcher.specs.InboundArgs.Down.{state_at}
 use Rattle.dispatcher.specs.InputChannel.State.{next_of, may_finish}
-use Rattle.key_repeat.specs.Due.{due_of}
 use Rattle.route_split.specs.Tables.{any_at}
 use Rattle.dispatch_calls.specs.declared.call.Call.{Call}
 use Rattle.dispatch_calls.specs.declared.call.Call.TheVariants.{Open, Windows, FocusOn, Notify, Pump, Tick, Receive, Finish, Pilfer, Remove}
@@ -18,7 +17,7 @@ use Rattle.dispatch_history.specs.Effect.{Effect, past_of}
 use Rattle.dispatch_history.specs.Effects.{channels}
 use Rattle.dispatch_history.specs.Reply.{open_reply, notify_reply, pump_reply, got_reply, is_due}
 use Rattle.dispatcher.specs.DispatchTables.Delivery.{Delivery, due_kept}
-use Rattle.dispatcher.specs.Knows.{Kept}
+use Rattle.dispatcher.specs.Knows.{Kept, due_again}
 
 -- the channels that are due at a moment, in rising order
 abbrev pub late_by : Delivery → ℕ → List ℕ
@@ -31,11 +30,11 @@ MayHand es k call = Unit {0}
 
 -- the reply to each call
 abbrev pub reply_by : Kept → Call → Reply
-reply_by k (Open limit) = open_reply k.delivery.count
+reply_by k (Open terms) = open_reply k.delivery.count
 reply_by k (Windows now shown) = Done
 reply_by k (FocusOn now display channel) = Done
 reply_by k (Notify now args) = notify_reply (state_at k.queue.down (device_of args)) args
-reply_by k (Pump now) = pump_reply k.queue.waiting (due_of k.repeat) (max now k.queue.clock)
+reply_by k (Pump now) = pump_reply k.queue.waiting (due_again k) (max now k.queue.clock)
 reply_by k (Tick now) = Named (mask_of (late_by k.delivery (max now k.queue.clock)))
 reply_by k (Receive c) = if not (mask_has k.delivery.live c) then Gone else got_reply (next_of (k.delivery.channel c))
 reply_by k (Finish now c seq) =

@@ -44,6 +44,7 @@ use Rattle.dispatcher.specs.Knows.{Kept, KeptStandsFor}
 use Rattle.dispatcher.specs.Staying.{delivery_of}
 use Rattle.dispatcher.specs.Sending.{parted_in, is_sending, sent_target, AreKeys, SendsFocus, Refocuses, OpensWith, GoesRound, GoesRemoved}
 use Rattle.dispatcher.specs.Tracking.{bodies_at}
+use Rattle.dispatch_calls.specs.declared.terms.Terms.{Terms}
 
 -- What a step says to a window that is live after it is what it sends it, with the places counted from the origin of the window.
 abbrev pub SaidLaw : Type 0
@@ -87,26 +88,26 @@ GoneLaw =
 -- The same of a step that opens a channel.
 abbrev pub OpenLaw : Type 0
 OpenLaw =
-    (displays : List ℕ) (limit number : ℕ) (es : List Effect) (k later : Kept) (r : Round) (t p u : Table) (changed : ℕ)
+    (displays : List ℕ) (terms : Terms) (number : ℕ) (es : List Effect) (k later : Kept) (r : Round) (t p u : Table) (changed : ℕ)
     → KeptStandsFor displays es k
     → k.delivery ≡ delivery_of t
     → k.inputs ≡ input_of t
-    → Opened number ≡ reply_to es (Open limit)
-    → OpensWith limit number t p
-    → GoesRound (Open limit) (Opened number) r p.live k later
-    → IsStepIn (scene displays es) k.touches r.mark (option_copied r.motion) r.watchers (step_at (Open limit) (Opened number) es)
-    → IsGiftAt displays (Open limit) (Opened number) es r.gift
+    → Opened number ≡ reply_to es (Open terms)
+    → OpensWith terms number t p
+    → GoesRound (Open terms) (Opened number) r p.live k later
+    → IsStepIn (scene displays es) k.touches r.mark (option_copied r.motion) r.watchers (step_at (Open terms) (Opened number) es)
+    → IsGiftAt displays (Open terms) (Opened number) es r.gift
     → ((s : Scene) (e : Step)
     → IsRound s e k.touches r → AllHoldPointers s p → SendsAll changed (sent_in later.covers r s e) k.shown.origins later.queue.clock p u)
     → later.delivery ≡ delivery_of u
     → later.inputs ≡ input_of u
-    → KeptStandsFor displays (step displays (Open limit) (Opened number) es) later
+    → KeptStandsFor displays (step displays (Open terms) (Opened number) es) later
 
 -- The table of channels opens one so.
 abbrev pub OpensLaw : Type 0
 OpensLaw =
-    (limit number : ℕ) (old new : Table)
-    → Opens limit number old new → OpensWith limit number old new
+    (terms : Terms) (number : ℕ) (old new : Table)
+    → Opens terms number old new → OpensWith terms number old new
 
 -- Where a channel is opened it alone can gain the focus, and nobody loses it.
 abbrev pub OpenFocusLaw : Type 0
@@ -121,11 +122,11 @@ OpenFocusLaw =
 -- The key target stays, and is sent nothing of keys.
 abbrev pub OpenKeysLaw : Type 0
 OpenKeysLaw =
-    (displays : List ℕ) (es : List Effect) (k : Kept) (later : FocusState) (limit number channel : ℕ)
+    (displays : List ℕ) (es : List Effect) (k : Kept) (later : FocusState) (terms : Terms) (number channel : ℕ)
     → KeptStandsFor displays es k
     → Refocuses k.shown.windows (mask_with k.delivery.live number) k.focus later
     → ((t : ℕ) → target_of k.focus ≡ Some t → channel ≡ t)
-    → AreKeys (target_of k.focus) (mask_with k.delivery.live number) (sent_target (Open limit) (Opened number) k later) channel []
+    → AreKeys (target_of k.focus) (mask_with k.delivery.live number) (sent_target (Open terms) (Opened number) k later) channel []
 
 -- The key target is live.
 abbrev pub TargetLiveLaw : Type 0
@@ -187,7 +188,7 @@ pub record OtherSteps (displays : List ℕ) (es : List Effect) (k : Kept) : Type
       (now watchers display : ℕ) (channel : Option ℕ)
       → IsStepIn (scene displays es) k.touches NoOp None watchers (step_at (FocusOn now display channel) Done es)
   pub opens :
-      (limit number watchers : ℕ) → IsStepIn (scene displays es) k.touches NoOp None watchers (step_at (Open limit) (Opened number) es)
+      (terms : Terms) (number watchers : ℕ) → IsStepIn (scene displays es) k.touches NoOp None watchers (step_at (Open terms) (Opened number) es)
   pub ticks :
       (now mask watchers : ℕ) → IsStepIn (scene displays es) k.touches (Mute mask) None watchers (step_at (Tick now) (Named mask) es)
   pub pilfers :

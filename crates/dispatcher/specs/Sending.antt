@@ -27,6 +27,7 @@ use Rattle.dispatcher.specs.Queue.{QueueGoes}
 use Rattle.dispatcher.specs.Shown.{ShownGoes}
 use Rattle.dispatcher.specs.Knows.{Kept}
 use Rattle.dispatcher.specs.Staying.{delivery_of}
+use Rattle.dispatch_calls.specs.declared.terms.Terms.{Terms}
 
 -- the channels before anyone is sent anything: one is removed, some are named, at this clock, or all stay
 abbrev pub parted_in : Call → Reply → (clock : ℕ) → Table → Table
@@ -45,7 +46,7 @@ Refocuses windows alive old new =
 abbrev pub FocusGoes : Call → List Window → (alive : ℕ) → (old new : FocusState) → Type 0
 FocusGoes (FocusOn now display channel) windows alive old new =
     (display < 4) × (new ≡ record { requested = slice_set old.requested display channel; last = display; focusable = old.focusable })
-FocusGoes (Open limit) windows alive old new = Refocuses windows alive old new
+FocusGoes (Open terms) windows alive old new = Refocuses windows alive old new
 FocusGoes (Windows now shown) windows alive old new = Refocuses windows alive old new
 FocusGoes (Remove now c) windows alive old new = Refocuses windows alive old new
 FocusGoes call windows alive old new = new ≡ old
@@ -96,14 +97,14 @@ is_sending (Pilfer now channel device) Done = true
 is_sending (Remove now channel) Done = true
 is_sending call answer = false
 
--- A channel with the next number is opened with a limit, and with room for some messages. Nothing is kept of it, and it is live and able.
-pub record OpensWith (limit number : ℕ) (old new : Table) : Type 0 where
+-- A channel with the next number is opened on terms, and with room for some messages. Nothing is kept of it, and it is live and able.
+pub record OpensWith (terms : Terms) (number : ℕ) (old new : Table) : Type 0 where
   pub room : ℕ
   pub number_is : number ≡ opened old + 1
   pub as_many : opened new ≡ suc (opened old)
   pub others :
       (c : ℕ) → 1 ≤ c → c ≤ opened old → (channel_of new c ≡ channel_of old c) × (input_of new c ≡ input_of old c)
-  pub channel_is : channel_of new number ≡ (let bare = opened_with limit in record bare { spare = room })
+  pub channel_is : channel_of new number ≡ (let bare = opened_with terms in record bare { spare = room })
   pub pointers_are : (d : ℕ) → pointers_of (input_of new number) d ≡ []
   pub keys_are : (input_of new number).keys ≡ []
   pub live_is : new.live ≡ mask_with old.live number

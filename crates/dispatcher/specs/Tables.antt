@@ -17,10 +17,17 @@ use Rattle.dispatcher.specs.Queueing.{args_in}
 use Rattle.dispatcher.specs.declared.tables.Routing.{Routing}
 use Rattle.dispatcher.specs.declared.tables.Tables.{Tables}
 use Rattle.dispatcher.specs.Seen.{kept_of}
+use Rattle.key_repeat.specs.Due.{due_by}
+use Rattle.dispatcher.specs.DispatchTables.Delivery.{repeats_kept}
+use Rattle.dispatcher.specs.Staying.{delivery_of}
 
 -- what is kept, with the room that the channels have
 abbrev pub kept : Queue → Routing → Kept
 kept q r = kept_of q r.shown r.touches r.covers r.channels r.focus r.repeat
+
+-- when the last key message must be repeated, by the tables
+abbrev pub due_repeat : Routing → Option ℕ
+due_repeat r = due_by (repeats_kept (delivery_of r.channels)) r.repeat
 
 -- the tables stand for a legal history with these effects
 abbrev pub TablesStandFor : List Effect → Tables → Type 0

@@ -5,7 +5,7 @@
 //! DOWN. Then its channel is kept as:
 //!
 //! ```text
-//! limit       5000000
+//! terms       limit 5000000, Android's repeats
 //! gone        1             the DOWN was received, and may be released
 //! messages    2: MOVE
 //! published   2

@@ -24,6 +24,7 @@ ghost use Rattle.dispatcher.specs.Queueing.{args_in, is_input, is_pump};
 
 mod apply;
 mod asked;
+mod down;
 mod inputs;
 mod owned;
 mod passing;
@@ -33,6 +34,7 @@ mod requests;
 mod room;
 
 use crate::cancel_synthesis::InputState;
+use crate::key_steps::repeat_due;
 use crate::tables::Tables;
 use crate::window_covers::Covers;
 use dispatch_calls::{Anr, Call, Counts, Reply};
@@ -177,7 +179,7 @@ impl Dispatcher {
         if self.is_waiting() {
             None
         } else {
-            self.tables.routing.repeat.due()
+            repeat_due(&self.tables.routing)
         }
     }
 

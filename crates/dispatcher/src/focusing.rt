@@ -16,9 +16,9 @@ use crate::key_steps::listening;
 use crate::key_tables::focusable;
 use crate::stays::staying;
 use crate::tables::Routing;
-use dispatch_calls::Reply;
+use dispatch_calls::{Reply, Terms};
 use focus_resolver::Change;
-use input_types::{DisplayId, KeyMsg, Limit, Moment};
+use input_types::{DisplayId, KeyMsg, Moment};
 use route_split::Mark;
 use std::alloc::AllocError;
 use window_snapshot::{Snapshot, mask_with};
@@ -26,15 +26,15 @@ use window_snapshot::{Snapshot, mask_with};
 /// Opens a channel. Its window has the focus at once if it was requested before and the windows list it.
 pub(crate) fn open(
     routing: &mut Routing,
-    limit: Limit,
+    terms: Terms,
     place: u64,
     clock: Moment,
 ) -> Result<Reply, AllocError>
     requires { IsTimely clock routing.old.channels }
-    ensures ok { IfOk result (λ answer. Goes (λ now. Open limit) answer place clock routing.old routing.new) }
+    ensures ok { IfOk result (λ answer. Goes (λ now. Open terms) answer place clock routing.old routing.new) }
     ensures err { OnErr result (SameButRoom routing.old routing.new) }
 {
-    match routing.channels.open(limit) {
+    match routing.channels.open(terms) {
         Ok(Some(number)) => {
             welcome(routing, number, place, clock);
             Ok(Reply::Opened(number))

@@ -12,8 +12,8 @@
 //! ```
 //!
 //! [`DevicesDown::plan`] returns what args change, or, if the rule of devices does not allow them, what is down; it
-//! changes nothing. [`DevicesDown::apply`] makes the change. Neither takes memory: each device has a bit for each scan
-//! code from the start.
+//! changes nothing. [`DevicesDown::apply`] makes the change. [`DevicesDown::first_key`] reports the keys that are down,
+//! one by one. None of them takes memory: each device has a bit for each scan code from the start.
 //!
 //! Args that came wait in an [`Inbound`]. A finger goes down, moves and goes up before the dispatcher looks:
 //!

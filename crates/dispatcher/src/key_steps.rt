@@ -1,14 +1,13 @@
 //! Keys: dispatched, cancelled by a reset of their device, and repeated.
 ghost use Rattle.std.specs.Prelude.{◌≡◌, ◌≤◌, ℕ, suc, None, Some, true, OnOk, OnErr, IfOk, IsOk, IfSome, vec_capacity, if◌then◌else◌};
 ghost use Rattle.input_types.specs.declared.message.Args.TheVariants.{Key as KeyOfDevice, Reset as ResetOf};
-ghost use Rattle.key_repeat.specs.Due.{due_of};
 ghost use Rattle.dispatch_calls.specs.declared.reply.Reply.TheVariants.{Dispatched, Repeated, Idle};
 ghost use Rattle.dispatch_history.specs.Reply.{is_due};
 ghost use Rattle.dispatcher.specs.DispatchRound.Rounds.{IsTimely};
 ghost use Rattle.dispatcher.specs.DispatchChannels.Table.{IsOpened};
 ghost use Rattle.dispatcher.specs.Keying.{listening};
 ghost use Rattle.dispatcher.specs.Roomy.{HasPumpRoom, IsRoomy};
-ghost use Rattle.dispatcher.specs.Tables.{Pumps, SameButRoom};
+ghost use Rattle.dispatcher.specs.Tables.{Pumps, SameButRoom, due_repeat};
 
 use crate::carry::{no_change, send_key, send_still};
 use crate::key_tables::key_heard;
@@ -109,16 +108,24 @@ fn is_due(due: Option<u64>, clock: Moment) -> bool
     }
 }
 
+/// When the next repeat of a held key is due, if any.
+pub(crate) fn repeat_due(routing: &Routing) -> Option<u64>
+    ensures { result ≡ due_repeat routing.now }
+{
+    let channel = routing.repeat.channel()?;
+    routing.repeat.due(routing.channels.repeats(channel))
+}
+
 /// Repeats a held key, if that is due. No args wait. Returns whether it was due.
 pub(crate) fn repeat(routing: &mut Routing, place: u64, clock: Moment) -> Result<bool, AllocError>
     requires { IsTimely clock routing.old.channels }
     ensures ok { IfOk result
         (λ is_due. Pumps None (if is_due then Repeated else Idle) place clock routing.old routing.new) }
     ensures err { OnErr result (SameButRoom routing.old routing.new) }
-    ensures calm { OnErr result (is_due (due_of routing.old.repeat) clock ≡ true) }
+    ensures calm { OnErr result (is_due (due_repeat routing.old) clock ≡ true) }
     ensures roomy { (n : ℕ) → HasPumpRoom (suc n) routing.old → IsOk result × HasPumpRoom n routing.new }
 {
-    if !is_due(routing.repeat.due(), clock) {
+    if !is_due(repeat_due(routing), clock) {
         return Ok(false);
     }
     let Some((_, message)) = routing.repeat.next() else {

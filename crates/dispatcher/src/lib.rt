@@ -3,7 +3,7 @@
 //! Window 1 is on the display, and a finger goes down on it. In this order the calls have these replies:
 //!
 //! ```text
-//! Open { limit: 5000000 }                                       Opened(1)
+//! Open { terms }                                                Opened(1)
 //! Windows { now: 0, snapshot: [1 at [0, 0, 1080, 2400]] }       Done
 //! Notify { now: 1000, args: Motion(1 Down 0@540,1200) }         Taken
 //! Pump { now: 1000 }                                            Dispatched

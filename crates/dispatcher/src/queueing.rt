@@ -1,15 +1,16 @@
 //! The clock, how many steps there were, the args that wait, and what is down on each device.
 ghost use Rattle.std.specs.Prelude.{◌≡◌, ◌<◌, ◌≤◌, ◌+◌, ◌-◌, ◌^◌, [], slice_get, Ok, IfOk, OnErr, OnOk, IsOk, option_copied};
 ghost use Rattle.input_types.specs.DeviceRule.{device_of};
-ghost use Rattle.dispatcher.specs.InboundArgs.Down.{PlansAt};
+ghost use Rattle.dispatcher.specs.InboundArgs.Down.{PlansAt, state_at};
 ghost use Rattle.dispatch_calls.specs.declared.call.Call.{Call};
 ghost use Rattle.dispatch_calls.specs.declared.reply.Reply.{Reply};
 ghost use Rattle.dispatcher.specs.InboundArgs.Waiting.{put_behind};
+ghost use Rattle.dispatcher.specs.Down.{IsFirstDown};
 ghost use Rattle.dispatcher.specs.Queue.{QueueIs, QueueGoes, Passes};
 ghost use Rattle.dispatcher.specs.Queueing.{stepped, dispatched, with_args_room, with_pumps};
 
 use crate::inbound::{Change, DevicesDown, Inbound, Inconsistent};
-use input_types::{Args, KeyArgs, Moment};
+use input_types::{Args, DeviceId, KeyArgs, Moment};
 use std::alloc::{AllocError, Global};
 use std::marker::Model;
 
@@ -104,6 +105,16 @@ impl Queueing {
         ensures device { (1 ≤ device_of args.now) × (device_of args.now ≤ 8) }
     {
         self.down.plan(args)
+    }
+
+    /// The first key that is down on a device by the args that were accepted, from a scan code on.
+    pub(crate) fn first_key(&self, device: DeviceId, from: u32) -> Option<u16>
+        ensures key { IsFirstDown (state_at self.now.down device).keys from result }
+        ensures device { (1 ≤ device) × (device ≤ 8) }
+    {
+        // Read only for its clause: a device has one of the numbers 1 to 8.
+        let _number = device.get();
+        self.down.first_key(device, from)
     }
 
     /// Makes room for the next `n` args. If memory runs out, nothing changes.

@@ -23,7 +23,7 @@ use Rattle.given_run.specs.State.{GivenState}
 
 -- a call that opens nothing leaves as many channels
 opened_same : (call : Call) (answer : Reply) (h : History) → is_opening call ≡ false → opened ((call, answer) ∷ h) ≡ opened h
-opened_same (Open limit) answer h e = absurd (true≢false e)
+opened_same (Open terms) answer h e = absurd (true≢false e)
 opened_same (Windows now shown) answer h e = refl
 opened_same (FocusOn now d channel) answer h e = refl
 opened_same (Notify now a) answer h e = refl
@@ -35,7 +35,7 @@ opened_same (Pilfer now channel device) answer h e = refl
 opened_same (Remove now channel) answer h e = refl
 
 one_at_most : (call : Call) → is_scripted call ≤ 1
-one_at_most (Open limit) = omega arith
+one_at_most (Open terms) = omega arith
 one_at_most (Windows now shown) = omega arith
 one_at_most (FocusOn now d channel) = omega arith
 one_at_most (Notify now a) = omega arith

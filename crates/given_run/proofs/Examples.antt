@@ -10,7 +10,7 @@ use Rattle.dispatch_history.specs.Effect.{Effect}
 use Rattle.dispatch_history.specs.Given.{given_calls}
 use Rattle.dispatch_history.specs.Ordered.{extend}
 use Rattle.dispatch_history.specs.Plan.{Plan, Cooked}
-use Rattle.dispatch_history.proofs.Worked.{one_display, window, at, motion}
+use Rattle.dispatch_history.proofs.Worked.{usual, one_display, window, at, motion}
 use Rattle.schedule.specs.Lines.{lines_first}
 use Rattle.stream_text.specs.declared.order_line.OrderLine.TheVariants.{Reader, Script, Pump, Tick, Receive, Finish}
 use Rattle.stream_text.specs.OrderAsks.{line_of}
@@ -26,7 +26,7 @@ abbrev two_lanes : Plan
 two_lanes =
     record {
       displays = one_display;
-      channels = record { limit = 5000000; finishes = true; finish_after = 70 } ∷ [];
+      channels = record { terms = usual; finishes = true; finish_after = 70 } ∷ [];
       steps =
           record { lane = 1; call = calls.FocusOn 5 0 (Some 1) } ∷ record { lane = 2; call = calls.Remove 7 1 }
           ∷ record { lane = 1; call = calls.Pilfer 9 1 1 } ∷ [];
@@ -37,12 +37,12 @@ two_lanes =
 -- each line makes its call: a step has its moment, wherever it stands, and a pump, a tick and a finish have moment 0
 each_line_makes_its_call :
     given_calls two_lanes (map line_of (Script 2 ∷ Tick ∷ Script 1 ∷ Receive 1 ∷ Script 1 ∷ Finish 1 3 ∷ Pump ∷ Receive 9 ∷ []))
-    ≡ Ok (calls.Open 5000000 ∷ calls.Remove 7 1 ∷ calls.Tick 0 ∷ calls.FocusOn 5 0 (Some 1) ∷ calls.Receive 1 ∷ calls.Pilfer 9 1 1
+    ≡ Ok (calls.Open usual ∷ calls.Remove 7 1 ∷ calls.Tick 0 ∷ calls.FocusOn 5 0 (Some 1) ∷ calls.Receive 1 ∷ calls.Pilfer 9 1 1
     ∷ calls.Finish 0 1 3 ∷ calls.Pump 0 ∷ calls.Receive 9 ∷ [])
 each_line_makes_its_call = refl
 
 -- a plan need not be used up
-no_lines_open_the_channels : given_calls two_lanes (map line_of []) ≡ Ok (calls.Open 5000000 ∷ [])
+no_lines_open_the_channels : given_calls two_lanes (map line_of []) ≡ Ok (calls.Open usual ∷ [])
 no_lines_open_the_channels = refl
 
 -- lane 2 has one step, and lane 3 has none
@@ -62,7 +62,7 @@ one_window =
     finger
     (record {
       displays = one_display;
-      channels = record { limit = 5000000; finishes = true; finish_after = 0 } ∷ [];
+      channels = record { terms = usual; finishes = true; finish_after = 0 } ∷ [];
       steps = record { lane = 1; call = calls.Windows 0 (window 1 0 0 0 1080 2400 ∷ []) } ∷ [];
       cooked = [];
       until = 0;

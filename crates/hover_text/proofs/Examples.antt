@@ -1,8 +1,9 @@
 -- Worked examples: the text of a session and a mouse. Events and calls are newest first.
-use Rattle.std.specs.Prelude.{codes, ◌≡◌, ℕ, ℤ, pos, negsuc, true, List, [], ◌∷◌, None, refl}
+use Rattle.std.specs.Prelude.{codes, ◌≡◌, ℕ, ℤ, pos, negsuc, true, List, [], ◌∷◌, Some, None, refl}
 use Rattle.std.specs.Fmt.{digits}
 use Rattle.input_types.specs.declared.axis.Rotation.{Rotation}
 use Rattle.input_types.specs.declared.axis.Rotation.TheVariants.{R0, R90}
+use Rattle.key_repeat.specs.Due.{android_delays}
 use Rattle.touch_region.specs.declared.rectangle.Rect.{Rect}
 use Rattle.window_snapshot.specs.declared.occlusion.Occlusion.TheVariants.{Block}
 use Rattle.window_snapshot.specs.declared.window.Window.{Window}
@@ -45,6 +46,7 @@ phone rotation steps =
       channels = named (codes "left") ∷ named (codes "right") ∷ [];
       steps = steps;
       end = 0;
+      repeats = Some android_delays;
     }
 
 abbrev event : ℕ → ℕ → ℕ → ℤ → RawEvent

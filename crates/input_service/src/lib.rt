@@ -5,10 +5,10 @@
 //!
 //! ```text
 //! new                                           seat 0, which has seen nothing
-//! seat 0 calls Open { limit: 5000000 }          place 0, reply Opened(1)
+//! seat 0 calls Open { terms }                   place 0, reply Opened(1)
 //! seat 0 splits off seat 1                      which has seen 1 entry
 //! seat 1 calls Tick { now: 0 }                  place 1, reply Named(0)
-//! seat 1 calls Open { limit: 5000000 }          place 2, reply Opened(2)
+//! seat 1 calls Open { terms }                   place 2, reply Opened(2)
 //! seat 0 looks                                  3
 //! ```
 //!

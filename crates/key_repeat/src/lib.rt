@@ -8,10 +8,14 @@
 //! sent up, at 1560000                 nothing is due
 //! ```
 //!
-//! The first repeat comes half a second after the down, and each further one a twentieth of a second after the
-//! previous one: the defaults of Android's `ViewConfiguration`.
+//! Here the first repeat comes half a second after the down, and each further one a twentieth of a second after the
+//! previous one: the defaults of Android's `ViewConfiguration`. A window may have delays of its own, or no repeats.
 #![tactic(auto)]
 
+mod delay;
+mod delays;
 mod repeat;
 
-pub use repeat::{DELAY_US, FIRST_DELAY_US, Repeat};
+pub use delay::Delay;
+pub use delays::Repeats;
+pub use repeat::Repeat;

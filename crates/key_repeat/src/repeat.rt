@@ -1,15 +1,10 @@
 //! The last key message, and when to repeat it.
-ghost use Rattle.std.specs.Prelude.{◌≡◌, None, Some, option_map};
+ghost use Rattle.std.specs.Prelude.{◌≡◌, ◌≤◌, None, Some, option_map};
 ghost use Rattle.key_repeat.specs.Due.{Sent as SentView, delay_after, due_of, is_repeated, next_of};
 
+use crate::delays::Repeats;
 use input_types::{KeyMsg, Moment};
 use std::marker::Model;
-
-/// From a key's down to its first repeat, in microseconds.
-pub const FIRST_DELAY_US: u64 = 500_000;
-
-/// From a repeat to the next, in microseconds.
-pub const DELAY_US: u64 = 50_000;
 
 /// A key message sent to a channel, and the clock at that time.
 #[derive(Clone, Copy, Debug)]
@@ -40,13 +35,14 @@ impl Model for Repeat {
     ghost inverse_ok = { λ r h i. record { last = kept_seen r.last i } };
 }
 
-fn delay(repeat: u32) -> u64
-    ensures { result ≡ delay_after repeat }
+fn delay(delays: Repeats, repeat: u32) -> u64
+    ensures value { result ≡ delay_after delays repeat }
+    ensures range { result ≤ 600000000 }
 {
     if repeat == 0 {
-        FIRST_DELAY_US
+        delays.first.get()
     } else {
-        DELAY_US
+        delays.next.get()
     }
 }
 
@@ -82,21 +78,31 @@ impl Repeat {
         self.last = None;
     }
 
-    /// When the next repeat is due, in microseconds. None if no message came since `new` or the last `stop`, if the
-    /// last one was an up, or if its repeat number is the greatest of 32 bits.
-    pub fn due(&self) -> Option<u64>
-        ensures { result ≡ due_of self.now }
+    /// The channel of the last key message. None if no message came since `new` or the last `stop`.
+    pub fn channel(&self) -> Option<u32>
+        ensures { result ≡ option_map (λ s. s.channel) self.now }
     {
         let sent = self.last?;
+        Some(sent.channel)
+    }
+
+    /// When the next repeat is due, in microseconds, by the delays of the channel of the last key message. None if no
+    /// message came since `new` or the last `stop`, if the channel gets no repeats, if the message was an up, or if its
+    /// repeat number is the greatest of 32 bits.
+    pub fn due(&self, delays: Option<Repeats>) -> Option<u64>
+        ensures { result ≡ due_of delays self.now }
+    {
+        let sent = self.last?;
+        let delays = delays?;
         if repeats(&sent.key) {
-            Some(sent.clock.get() + delay(sent.key.repeat))
+            Some(sent.clock.get() + delay(delays, sent.key.repeat))
         } else {
             None
         }
     }
 
     /// The channel that the next repeat is for, and the repeat: the same down, its number one higher. None exactly if
-    /// no repeat is ever due.
+    /// no repeat is ever due, whatever the delays.
     pub fn next(&self) -> Option<(u32, KeyMsg)>
         ensures { option_map (λ n. (n.0, n.1)) result ≡ next_of self.now }
     {

@@ -6,6 +6,7 @@ use dispatch_calls::Call;
 use dispatch_core::Core;
 use input_service::Service;
 use input_types::Displays;
+use key_repeat::Repeats;
 use replay_actors::{Gate, Lanes, RaceEnd, open_channels, run_lanes};
 use std::alloc::Global;
 use std::io;
@@ -21,7 +22,8 @@ fn race<R: Threads + Wait + Sync, G: Gate + Sync>(
     let core = Core::new(alloc, &Displays::new())?;
     let (service, mut seat) = Service::new(alloc, core)?;
     let channels = [channel(alloc, "left")?, channel(alloc, "right")?];
-    open_channels(rt, &service, &mut seat, &channels)?;
+    let repeats = Some(Repeats::android());
+    open_channels(rt, &service, &mut seat, &channels, repeats)?;
     let lanes = Lanes {
         cooked: cooked(alloc)?,
         scripts: scripts(alloc)?,

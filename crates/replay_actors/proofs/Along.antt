@@ -204,7 +204,7 @@ module _ (ds : List ℕ) (f : ℕ → Bool) (channels s m : ℕ) (own : List Own
           let now_on = subst (λ o. ReceivesOn f channels j (receiving f channels j o)) (calls_same (3 + s + j) e h y) (all j lt) in
           let t = took f channels j (calls_by (3 + s + j) h) (on_before e h all j lt) in
           (pair_step ds f channels j (stage j h) (Finish now c seq) r c (weigh idle_one (calls_by (3 + s + j) h)) (steps h) l o.2 t.count now_on p.0 p.1).order (eq-eqb c c refl)
-  orderly_one (k, Open limit, r) later few only l deeds shut all = tt
+  orderly_one (k, Open terms, r) later few only l deeds shut all = tt
   orderly_one (k, Windows now shown, r) later few only l deeds shut all = tt
   orderly_one (k, FocusOn now display channel, r) later few only l deeds shut all = tt
   orderly_one (k, Notify now a, r) later few only l deeds shut all = tt

@@ -98,7 +98,7 @@ pub record Traits (notified scripted : ℕ) (opening : Bool) (call : Call) : Typ
   pub timeless : IsTimeless call
 
 pub of_open : (call : Call) (answer : Reply) → is_opening call answer ≡ true → Traits 0 0 true call
-of_open (Open limit) answer e = record { notified_is = refl; scripted_is = refl; opens_is = refl; timeless = tt }
+of_open (Open terms) answer e = record { notified_is = refl; scripted_is = refl; opens_is = refl; timeless = tt }
 of_open call answer e = absurd (true≢false (sym e))
 
 pub of_notify : (call : Call) → is_notified call ≡ 1 → Traits 1 0 false call
@@ -131,7 +131,7 @@ of_settles call e = absurd e
 
 -- who calls about a channel
 about_open : (call : Call) (answer : Reply) (c : ℕ) → is_opening call answer ≡ true → is_about call c ≡ false
-about_open (Open limit) answer c e = refl
+about_open (Open terms) answer c e = refl
 about_open call answer c e = absurd (true≢false (sym e))
 
 about_notify : (call : Call) (c : ℕ) → is_notified call ≡ 1 → is_about call c ≡ false
@@ -208,7 +208,7 @@ module _ {s m : ℕ} {f : ℕ → Bool} {channels k : ℕ} {call : Call} {answer
   no_tick (caller e o) ne = open_ticks call answer o
     where
       open_ticks : (call : Call) (answer : Reply) → is_opening call answer ≡ true → tick_one call answer ≡ 0
-      open_ticks (Open limit) answer e = refl
+      open_ticks (Open terms) answer e = refl
       open_ticks call answer e = absurd (true≢false (sym e))
   no_tick (reader e o) ne = note_ticks call o
     where
@@ -232,7 +232,7 @@ module _ {s m : ℕ} {f : ℕ → Bool} {channels k : ℕ} {call : Call} {answer
   no_idle (caller e o) ne low = open_idles call answer o
     where
       open_idles : (call : Call) (answer : Reply) → is_opening call answer ≡ true → idle_one call answer ≡ 0
-      open_idles (Open limit) answer e = refl
+      open_idles (Open terms) answer e = refl
       open_idles call answer e = absurd (true≢false (sym e))
   no_idle (reader e o) ne low = note_idles call o
     where

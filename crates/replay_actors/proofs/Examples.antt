@@ -10,7 +10,7 @@ use Rattle.dispatch_calls.specs.declared.reply.Reply.TheVariants.{Opened, Done, 
 use Rattle.dispatch_history.specs.Given.{given_calls}
 use Rattle.dispatch_history.specs.Legal.{replay}
 use Rattle.dispatch_history.specs.Plan.{Plan}
-use Rattle.dispatch_history.proofs.Worked.{one_display, window, at, motion, says}
+use Rattle.dispatch_history.proofs.Worked.{usual, one_display, window, at, motion, says}
 use Rattle.dispatch_core.specs.Machine.{called}
 use Rattle.dispatch_core.specs.Recorded.{history_of}
 use Rattle.stream_text.specs.OrderHistory.{order_of_history}
@@ -29,7 +29,7 @@ abbrev plan : Plan
 plan =
     record {
       displays = one_display;
-      channels = record { limit = 5000000; finishes = true; finish_after = 0 } ∷ [];
+      channels = record { terms = usual; finishes = true; finish_after = 0 } ∷ [];
       steps = record { lane = 1; call = Windows 0 (window 1 0 0 0 1080 2400 ∷ []) } ∷ [];
       cooked = record { moment = 1000; args = MotionArgs (motion Down 0 (at 0 540 1200 ∷ [])) } ∷ [];
       until = 0;
@@ -43,7 +43,7 @@ made seat call reply = record { seat = seat; call = call; reply = reply }
 abbrev entries : List Entry
 entries =
     reverse
-    (made 0 (Open 5000000) (Opened 1)
+    (made 0 (Open usual) (Opened 1)
     ∷ made 2 (Pump 0) Idle
     ∷ made 3 (Windows 0 (window 1 0 0 0 1080 2400 ∷ [])) Done
     ∷ made 1 (Notify 1000 (MotionArgs (motion Down 0 (at 0 540 1200 ∷ [])))) Taken

@@ -61,7 +61,7 @@ firsts (e ∷ h) own is only =
 one_open : (call : Call) (answer : Reply) (h : List (Call × Reply)) (c : ℕ) → is_opening call answer ≡ true
     → (given ((call, answer) ∷ h) c ≡ given h c) × (asked ((call, answer) ∷ h) c ≡ asked h c) × (finished ((call, answer) ∷ h) c ≡ finished h c)
     × (opened ((call, answer) ∷ h) ≡ suc (opened h)) × ((f : ℕ → Bool) → AreOrderly f h → AreOrderly f ((call, answer) ∷ h))
-one_open (Open limit) (Opened k) h c e = (refl, refl, refl, refl, λ f o. (tt, o))
+one_open (Open terms) (Opened k) h c e = (refl, refl, refl, refl, λ f o. (tt, o))
 one_open call answer h c e = absurd (true≢false (sym e))
 
 pub record Begun (own : List Own) (c : ℕ) : Type 0 where

@@ -181,7 +181,7 @@ module _ (seats : List ℕ) (cooked : List Cooked) (ss : List ScriptStep) where
       → map (λ a. calls.Notify a.moment a.args) cooked ≡ reverse (notified_in h) ++ args
       → Left h rs → Made h args rs
   follows [] args rs shut timeless alone cs left = record { made = refl; args_are = cs; steps_are = left }
-  follows ((s, calls.Open limit, r) ∷ h) args rs shut timeless alone cs left = absurd (true≢false shut.0)
+  follows ((s, calls.Open terms, r) ∷ h) args rs shut timeless alone cs left = absurd (true≢false shut.0)
   follows ((s, calls.Windows now shown, r) ∷ h) args rs shut timeless alone cs left =
       let e : Called Call Reply = (s, calls.Windows now shown, r) in
       let o = some_lane seats s alone.0 in

@@ -52,7 +52,7 @@ given_same (Receive k) Gone c ns e = refl
 given_same (Receive k) UnknownSeq c ns e = refl
 given_same (Receive k) NotSpy c ns e = refl
 given_same (Receive k) NothingHeld c ns e = refl
-given_same (Open limit) answer c ns e = refl
+given_same (Open terms) answer c ns e = refl
 given_same (Windows now shown) answer c ns e = refl
 given_same (FocusOn now display channel) answer c ns e = refl
 given_same (Notify now args) answer c ns e = refl
@@ -64,7 +64,7 @@ given_same (Remove now k) answer c ns e = refl
 
 pub asked_same : (call : Call) (c : ℕ) (ns : List ℕ) → is_about call c ≡ false → asked_after call c ns ≡ ns
 asked_same (Finish now k seq) c ns e = ap (λ b. cond b (seq ∷ ns) ns) e
-asked_same (Open limit) c ns e = refl
+asked_same (Open terms) c ns e = refl
 asked_same (Windows now shown) c ns e = refl
 asked_same (FocusOn now display channel) c ns e = refl
 asked_same (Notify now args) c ns e = refl
@@ -90,7 +90,7 @@ finished_same (Finish now k seq) Gone c ns e = refl
 finished_same (Finish now k seq) UnknownSeq c ns e = refl
 finished_same (Finish now k seq) NotSpy c ns e = refl
 finished_same (Finish now k seq) NothingHeld c ns e = refl
-finished_same (Open limit) answer c ns e = refl
+finished_same (Open terms) answer c ns e = refl
 finished_same (Windows now shown) answer c ns e = refl
 finished_same (FocusOn now display channel) answer c ns e = refl
 finished_same (Notify now args) answer c ns e = refl
@@ -102,7 +102,7 @@ finished_same (Remove now k) answer c ns e = refl
 
 -- a channel that is live after a call that is no opening was live before it
 pub was_live : (call : Call) (answer : Reply) (c : ℕ) (b : Bool) → opens call ≡ false → live_after call answer c b ≡ true → b ≡ true
-was_live (Open limit) answer c b shut e = absurd (true≢false shut)
+was_live (Open terms) answer c b shut e = absurd (true≢false shut)
 was_live (Remove now k) Done c b shut e = by_both (c == k) b e
   where
     by_both : (x y : Bool) → (not x && y) ≡ true → y ≡ true

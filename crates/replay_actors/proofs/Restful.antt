@@ -4,10 +4,11 @@ use Rattle.std.proofs.lemmas.Bool.{eq-eqb}
 use Rattle.input_types.specs.declared.key.KeyArgs.{KeyArgs}
 use Rattle.input_types.specs.declared.key.KeyMsg.{KeyMsg}
 use Rattle.focus_resolver.specs.Resolver.{is_at}
-use Rattle.key_repeat.specs.Due.{Sent, due_of}
+use Rattle.key_repeat.specs.declared.delays.Repeats.{Repeats}
+use Rattle.key_repeat.specs.Due.{Sent, due_after, due_by}
 use Rattle.dispatch_calls.specs.declared.call.Call.{Call}
 use Rattle.dispatch_calls.specs.declared.reply.Reply.{Reply}
-use Rattle.dispatch_history.specs.History.{clock, live}
+use Rattle.dispatch_history.specs.History.{clock, live, repeats_of}
 use Rattle.dispatch_history.specs.Queue.{inbound, args_of}
 use Rattle.dispatch_history.specs.Effect.{Effect, past_of}
 use Rattle.dispatch_history.specs.Effects.{step}
@@ -40,11 +41,17 @@ sent_cancels call answer es w no_args no_repeat =
     nothing [] = refl
     nothing (m ∷ ms) = ap (λ xs. m ∷ xs) (nothing ms)
 
--- after it the same repeat is due, or none
-pub due_after : (ds : List ℕ) (call : Call) (answer : Reply) (es : List Effect) → Lawful ds (step ds call answer es) → args_of call answer (inbound (past_of es)) ≡ None
+-- the same delays give the same
+same_due : (f g : ℕ → Option Repeats) (o : Option Sent) → ((w : ℕ) → f w ≡ g w) → due_by f o ≡ due_by g o
+same_due f g None e = refl
+same_due f g (Some s) e = ap (λ delays. due_after delays s) (e s.channel)
+
+-- after it, if it opens no channel, the same repeat is due, or none
+pub due_stays : (ds : List ℕ) (call : Call) (answer : Reply) (es : List Effect) → Lawful ds (step ds call answer es) → args_of call answer (inbound (past_of es)) ≡ None
     → ((w : ℕ) → repeat_by ((call, answer) ∷ past_of es) (last_key es) w ≡ [])
+    → ((w : ℕ) → repeats_of ((call, answer) ∷ past_of es) w ≡ repeats_of (past_of es) w)
     → (repeat_due (step ds call answer es) ≡ None) ⊎ (repeat_due (step ds call answer es) ≡ repeat_due es)
-due_after ds call answer es l no_args no_repeat = by_target (key_target (past_of es)) refl
+due_stays ds call answer es l no_args no_repeat same = by_target (key_target (past_of es)) refl
   where
     last : Option Sent
     last = while_held es (last_key es)
@@ -53,8 +60,8 @@ due_after ds call answer es l no_args no_repeat = by_target (key_target (past_of
     next = step ds call answer es
 
     kept : (o : Option Sent) → o ≡ while_held next (last_key next) → (o ≡ None) ⊎ (o ≡ last) → (repeat_due next ≡ None) ⊎ (repeat_due next ≡ repeat_due es)
-    kept o is (inl e) = inl (ap due_of (sym is ∙ e))
-    kept o is (inr e) = inr (ap due_of (sym is ∙ e))
+    kept o is (inl e) = inl (ap (due_by (repeats_of (past_of next))) (sym is ∙ e))
+    kept o is (inr e) = inr (ap (due_by (repeats_of (past_of next))) (sym is ∙ e) ∙ same_due (repeats_of (past_of next)) (repeats_of (past_of es)) last same)
 
     by_target : (o : Option ℕ) → key_target (past_of es) ≡ o → (repeat_due next ≡ None) ⊎ (repeat_due next ≡ repeat_due es)
     by_target None e = kept last (repeat_left ds call answer es last l e refl) (inr refl)

@@ -90,7 +90,7 @@ module _ (ds : List ℕ) (f : ℕ → Bool) where
   looked_receive c answer h l k =
       record {
         idle = k.idle;
-        no_repeat = no_repeat_after ds (Receive c) answer h l refl refl (λ w. refl) k.no_repeat;
+        no_repeat = no_repeat_after ds (Receive c) answer h l refl refl (λ w. refl) (λ w. refl) k.no_repeat;
         looked = k.looked;
         taken = λ d low high. stays ds (Receive c) answer h d l refl (part_receive c d answer (λ e. absurd (omega arith))) (λ lives. lives) (k.taken d low high);
       }
@@ -99,7 +99,7 @@ module _ (ds : List ℕ) (f : ℕ → Bool) where
   looked_finish now c seq answer h at_zero l k =
       record {
         idle = k.idle;
-        no_repeat = no_repeat_after ds (Finish now c seq) answer h l at_zero refl (λ w. refl) k.no_repeat;
+        no_repeat = no_repeat_after ds (Finish now c seq) answer h l at_zero refl (λ w. refl) (λ w. refl) k.no_repeat;
         looked = k.looked;
         taken = λ d low high. stays ds (Finish now c seq) answer h d l refl (part_finish now c seq d answer (λ e. absurd (omega arith))) (λ lives. lives) (k.taken d low high);
       }
@@ -142,7 +142,7 @@ module _ (ds : List ℕ) (f : ℕ → Bool) where
   one_pump now Idle h z l q =
       let w = idle_waits ds now h l.0 in
       record {
-        at = (quiet_pump now Idle h q, w.0, no_repeat_after ds (Pump now) Idle h l z refl (λ w. refl) (w.1 z));
+        at = (quiet_pump now Idle h q, w.0, no_repeat_after ds (Pump now) Idle h l z refl (λ w. refl) (λ w. refl) (w.1 z));
         order = tt;
         settles = z;
         count = λ n m c. (c.0, ap suc c.1);
@@ -156,7 +156,7 @@ module _ (ds : List ℕ) (f : ℕ → Bool) where
           quiet_tick now answer h a.0,
           record {
             idle = a.1;
-            no_repeat = no_repeat_after ds (Tick now) answer h l z refl (λ w. refl) a.2;
+            no_repeat = no_repeat_after ds (Tick now) answer h l z refl (λ w. refl) (λ w. refl) a.2;
             looked = refl;
             taken = λ d low high. absurd (omega arith);
           },

@@ -31,8 +31,8 @@ opened_each [] = tt
 opened_each (c ∷ cs) = (refl, opened_each cs)
 
 pub not_made : (o : Option ℕ) (call : Call) → opens call ≡ true → made_by o call ≡ []
-not_made None (calls.Open limit) e = refl
-not_made (Some l) (calls.Open limit) e = refl
+not_made None (calls.Open terms) e = refl
+not_made (Some l) (calls.Open terms) e = refl
 not_made o (calls.Windows now shown) e = absurd (true≢false (sym e))
 not_made o (calls.FocusOn now display channel) e = absurd (true≢false (sym e))
 not_made o (calls.Notify now a) e = absurd (true≢false (sym e))
@@ -44,7 +44,7 @@ not_made o (calls.Pilfer now channel device) e = absurd (true≢false (sym e))
 not_made o (calls.Remove now channel) e = absurd (true≢false (sym e))
 
 pub neither : (call : Call) → opens call ≡ true → ((is_notified call == 1) ≡ false) × ((is_scripted call == 1) ≡ false)
-neither (calls.Open limit) e = (refl, refl)
+neither (calls.Open terms) e = (refl, refl)
 neither (calls.Windows now shown) e = absurd (true≢false (sym e))
 neither (calls.FocusOn now display channel) e = absurd (true≢false (sym e))
 neither (calls.Notify now a) e = absurd (true≢false (sym e))

@@ -10,7 +10,7 @@ use Rattle.dispatch_calls.specs.declared.call.Call.{Call}
 use Rattle.dispatch_calls.specs.declared.call.Call.TheVariants.{Pump, Receive}
 use Rattle.dispatch_calls.specs.declared.reply.Reply.{Reply}
 use Rattle.dispatch_calls.specs.declared.reply.Reply.TheVariants.{Repeated, Idle, Got, Empty, Gone}
-use Rattle.dispatch_history.specs.History.{History, clock, live, received, moment_of}
+use Rattle.dispatch_history.specs.History.{History, clock, live, received, repeats_of, moment_of}
 use Rattle.dispatch_history.specs.Queue.{inbound, args_of}
 use Rattle.dispatch_history.specs.Delivery.{published}
 use Rattle.dispatch_history.specs.Effect.{Effect, past_of, stream}
@@ -24,7 +24,7 @@ use Rattle.dispatcher.proofs.DispatchTables.Keeping.{kept_quiet, kept_facts}
 use Rattle.dispatcher.proofs.DispatchTables.Lawfuls.{lawful_effects}
 use Rattle.dispatcher.proofs.DispatchTables.Silence.{silent_calls}
 use Rattle.dispatcher.specs.DispatchTables.Silent.{is_silent}
-use Rattle.replay_actors.proofs.Restful.{due_after}
+use Rattle.replay_actors.proofs.Restful.{due_stays}
 
 -- no repeat is due at the clock
 abbrev pub NoRepeat : List ℕ → History → Type 0
@@ -34,13 +34,14 @@ NoRepeat ds h = IfSome (repeat_due (effects ds h)) (λ t. clock h < t)
 abbrev pub ReceivedAll : List ℕ → ℕ → History → Type 0
 ReceivedAll ds c h = live h c ≡ true → received h c ≡ published (effects ds h) c
 
--- a call at moment 0 that dispatches nothing brings no repeat
+-- a call at moment 0 that opens no channel and dispatches nothing brings no repeat
 pub no_repeat_after : (ds : List ℕ) (call : Call) (answer : Reply) (h : History) → Legal ds ((call, answer) ∷ h) → moment_of call ≡ 0
     → args_of call answer (inbound (past_of (effects ds h))) ≡ None
     → ((w : ℕ) → repeat_by ((call, answer) ∷ past_of (effects ds h)) (last_key (effects ds h)) w ≡ [])
+    → ((w : ℕ) → repeats_of ((call, answer) ∷ past_of (effects ds h)) w ≡ repeats_of (past_of (effects ds h)) w)
     → NoRepeat ds h → NoRepeat ds ((call, answer) ∷ h)
-no_repeat_after ds call answer h l at_zero no_args no_repeat none =
-    by_due (due_after ds call answer (effects ds h) (lawful_effects ds ((call, answer) ∷ h) l) no_args no_repeat)
+no_repeat_after ds call answer h l at_zero no_args no_repeat same none =
+    by_due (due_stays ds call answer (effects ds h) (lawful_effects ds ((call, answer) ∷ h) l) no_args no_repeat same)
   where
     same_clock : clock ((call, answer) ∷ h) ≡ clock h
     same_clock = omega (arith, at_zero)

@@ -1,13 +1,13 @@
 -- How far the caller has come that settles a core.
-use Rattle.std.specs.Prelude.{◌≡◌, ℕ, ◌+◌, ◌-◌, Bool, List, ◌++◌, length, if◌then◌else◌}
+use Rattle.std.specs.Prelude.{◌≡◌, ℕ, ◌+◌, ◌-◌, ◌*◌, Bool, List, ◌++◌, length, Option, Some, None}
+use Rattle.key_repeat.specs.Due.{Sent}
 use Rattle.dispatch_calls.specs.declared.call.Call.{Call}
 use Rattle.dispatch_calls.specs.declared.reply.Reply.{Reply}
 use Rattle.dispatch_history.specs.Effect.{stream}
 use Rattle.dispatch_history.specs.Effects.{effects}
-use Rattle.dispatch_history.specs.History.{History, clock, received}
-use Rattle.dispatch_history.specs.KeySent.{repeat_due}
+use Rattle.dispatch_history.specs.History.{History, received}
+use Rattle.dispatch_history.specs.KeySent.{last_key, while_held}
 use Rattle.dispatch_history.specs.Queue.{inbound}
-use Rattle.dispatch_history.specs.Reply.{is_due}
 use Rattle.dispatch_core.specs.Machine.{called, steps}
 use Rattle.dispatch_core.specs.Recorded.{Recorded}
 use Rattle.replay_actors.specs.Race.{Each}
@@ -31,9 +31,15 @@ IsOnWay stage = Unit {0}
 abbrev pub CameSome : (finishing : ℕ → Bool) → (start now : Recorded) → Type 0
 CameSome finishing start now = (stage : Settling) × IsOnWay stage × Came finishing start stage now
 
--- how many pumps more find something to do: one for each args that wait, and one for a repeat that is due; args may make a repeat due
+-- how many repeats may follow a key message: their numbers have 32 bits
+abbrev pub repeats_left : Option Sent → ℕ
+repeats_left None = 0
+repeats_left (Some s) = 4294967295 - s.key.repeat
+
+-- At most so many pumps more find something to do: one for each args that wait, and one for each repeat of the key that is held. Args may
+-- be a key that goes down, whose repeats begin anew.
 abbrev pub pumps_left : List ℕ → History → ℕ
-pumps_left displays h = length (inbound h) + length (inbound h) + (if is_due (repeat_due (effects displays h)) (clock h) then 1 else 0)
+pumps_left displays h = length (inbound h) * 4294967296 + repeats_left (while_held (effects displays h) (last_key (effects displays h)))
 
 -- how many messages of a channel its owner has not taken
 abbrev pub unreceived : List ℕ → History → ℕ → ℕ

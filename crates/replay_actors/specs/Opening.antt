@@ -1,6 +1,8 @@
 -- The caller of a race, who opens its channels.
-use Rattle.std.specs.Prelude.{◌≡◌, ℕ, ◌+◌, ◌<◌, List, ◌∷◌, length, map, reverse, take}
+use Rattle.std.specs.Prelude.{◌≡◌, ℕ, ◌+◌, ◌<◌, List, ◌∷◌, Option, length, map, reverse, take}
+use Rattle.key_repeat.specs.declared.delays.Repeats.{Repeats}
 use Rattle.dispatch_calls.specs.declared.call.Call.TheVariants.{Open}
+use Rattle.dispatch_calls.specs.declared.terms.Terms.{Terms}
 use Rattle.dispatch_history.specs.Given.{opens}
 use Rattle.session_plan.specs.View.{channel_view}
 use Rattle.session_plan.specs.declared.plan.ChannelPlan.{ChannelPlan}
@@ -14,14 +16,14 @@ pub record IsCaller (v : Known) : Type 0 where
   pub number : v.mine.number ≡ 0
   pub made : v.mine.made ≡ 0
 
--- one channel more was opened, with this limit
-pub record Opens (limit : ℕ) (v w : Known) : Type 0 where
+-- one channel more was opened, on these terms
+pub record Opens (terms : Terms) (v w : Known) : Type 0 where
   pub only : OnlyOpens w.mine.own
-  pub calls : calls_made w.mine.own ≡ Open limit ∷ calls_made v.mine.own
+  pub calls : calls_made w.mine.own ≡ Open terms ∷ calls_made v.mine.own
   pub one : length w.mine.own ≡ length v.mine.own + 1
 
 -- a front part of these channels was opened in their order, and not all of them; the seat made no other call
-pub record OpensFront (channels : List ChannelPlan) (v : Known) : Type 0 where
+pub record OpensFront (repeats : Option Repeats) (channels : List ChannelPlan) (v : Known) : Type 0 where
   pub only : OnlyOpens v.mine.own
   pub fewer : length v.mine.own < length channels
-  pub calls : calls_made v.mine.own ≡ reverse (opens (map channel_of (map channel_view (take (length v.mine.own) channels))))
+  pub calls : calls_made v.mine.own ≡ reverse (opens (map (channel_of repeats) (map channel_view (take (length v.mine.own) channels))))

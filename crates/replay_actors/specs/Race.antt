@@ -49,7 +49,7 @@ IsTimeless call = Unit {0}
 
 -- a call opens a channel
 abbrev pub opens : Call → Bool
-opens (Open limit) = true
+opens (Open terms) = true
 opens call = false
 
 -- a call that scripts make bears the number of a script lane's seat, and no other call does

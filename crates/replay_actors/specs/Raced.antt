@@ -11,7 +11,7 @@ use Rattle.replay_actors.specs.Lanes.{Own, calls_made, notifies, pumping, pumps,
 
 -- a channel was opened
 abbrev pub is_opening : Call → Reply → Bool
-is_opening (Open limit) (Opened k) = true
+is_opening (Open terms) (Opened k) = true
 is_opening call reply = false
 
 -- these are the first calls of a history, and each opened a channel

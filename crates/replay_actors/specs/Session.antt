@@ -1,5 +1,6 @@
 -- The channels and the steps of a session, as a history's plan has them.
-use Rattle.std.specs.Prelude.{ℕ}
+use Rattle.std.specs.Prelude.{ℕ, Option}
+use Rattle.key_repeat.specs.declared.delays.Repeats.{Repeats}
 use Rattle.dispatch_calls.specs.declared.call.Call.{Call}
 use Rattle.dispatch_calls.specs.declared.call.Call.TheVariants as calls
 use Rattle.dispatch_history.specs.Plan.{ChannelOf, ScriptStep}
@@ -8,9 +9,9 @@ use Rattle.session_plan.specs.declared.plan.Act.{Act}
 use Rattle.session_plan.specs.declared.plan.Act.TheVariants.{Windows, FocusOn, Pilfer, Remove}
 use Rattle.session_plan.specs.declared.plan.Step.{Step}
 
--- a channel without its name
-abbrev pub channel_of : ChannelData → ChannelOf
-channel_of c = record { limit = c.limit; finishes = c.finishes; finish_after = c.finish_after }
+-- a channel without its name, for which keys are repeated so
+abbrev pub channel_of : Option Repeats → ChannelData → ChannelOf
+channel_of repeats c = record { terms = record { limit = c.limit; repeats = repeats }; finishes = c.finishes; finish_after = c.finish_after }
 
 -- the call of a step, at its moment
 abbrev pub call_of : ℕ → Act → Call

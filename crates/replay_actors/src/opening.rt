@@ -9,19 +9,29 @@ ghost use Rattle.replay_actors.specs.Raced.{OnlyOpens};
 ghost use Rattle.replay_actors.specs.Opening.{IsCaller, Opens, OpensFront};
 ghost use Rattle.replay_actors.specs.Session.{channel_of};
 
-use dispatch_calls::Call;
+use dispatch_calls::{Call, Terms};
 use input_service::{Seat, Service};
-use input_types::Limit;
+use key_repeat::Repeats;
 use session_plan::ChannelPlan;
 use std::alloc::AllocError;
 use std::sync::Wait;
+
+/// What a channel of a session is opened with, if keys are repeated so.
+fn terms_of(channel: &ChannelPlan, repeats: &Option<Repeats>) -> Terms
+    ensures { result ≡ record { limit = channel.now.limit; repeats = repeats.now } }
+{
+    Terms {
+        limit: channel.limit,
+        repeats: *repeats,
+    }
+}
 
 /// Opens one channel more.
 fn open_one<R: Wait>(
     rt: &R,
     service: &Service,
     seat: &mut Seat,
-    limit: Limit,
+    terms: Terms,
 ) -> Result<(), AllocError>
     requires of { IsOf service.now seat.old }
     requires caller { IsCaller (view seat.old) }
@@ -29,21 +39,22 @@ fn open_one<R: Wait>(
     ensures of { IsOf service.now seat.new }
     ensures caller { IsCaller (view seat.new) }
     ensures setup { (view seat.new).setup ≡ (view seat.old).setup }
-    ensures opened { OnOk result (Opens limit (view seat.old) (view seat.new)) }
+    ensures opened { OnOk result (Opens terms (view seat.old) (view seat.new)) }
     ensures err { OnErr result ((view seat.new).mine.own ≡ (view seat.old).mine.own) }
 {
-    service.call(rt, seat, Call::Open { limit })?;
+    service.call(rt, seat, Call::Open { terms })?;
     Ok(())
 }
 
-/// Opens the channels of a race in their order, by the seat of number 0 before it is split. If memory runs out, only
-/// the first of them are opened.
+/// Opens the channels of a race in their order, by the seat of number 0 before it is split. Keys are repeated so for
+/// all of them. If memory runs out, only the first of them are opened.
 #[tactic(auto, using(crate::proofs::Opened::opens_next))]
 pub fn open_channels<R: Wait>(
     rt: &R,
     service: &Service,
     seat: &mut Seat,
     channels: &[ChannelPlan],
+    repeats: Option<Repeats>,
 ) -> Result<(), AllocError>
     requires of { IsOf service.now seat.old }
     requires caller { IsCaller (view seat.old) }
@@ -55,11 +66,11 @@ pub fn open_channels<R: Wait>(
     ensures opened { OnOk result (OnlyOpens (view seat.new).mine.own) }
     ensures each { OnOk result (length (view seat.new).mine.own ≡ length channels.now) }
     ensures calls { OnOk result
-        (calls_made (view seat.new).mine.own ≡ reverse (opens (map channel_of (map channel_view channels.now)))) }
-    ensures err { OnErr result (OpensFront channels.now (view seat.new)) }
+        (calls_made (view seat.new).mine.own ≡ reverse (opens (map (channel_of repeats) (map channel_view channels.now)))) }
+    ensures err { OnErr result (OpensFront repeats channels.now (view seat.new)) }
 {
     'channels: for channel in channels {
-        open_one(rt, service, seat, channel.limit)?;
+        open_one(rt, service, seat, terms_of(channel, &repeats))?;
     }
     Ok(())
 }

@@ -20,8 +20,8 @@ use Rattle.run_laws.specs.Laws.{OneOutcome}
 use Rattle.dispatch_history.proofs.OrderedLaws.{reached, stays}
 
 opened_more : (call : Call) (answer : Reply) (n : ℕ) → n ≤ opened_after call answer n
-opened_more (Open limit) (Opened k) n = omega arith
-opened_more (Open limit) _ n = omega arith
+opened_more (Open terms) (Opened k) n = omega arith
+opened_more (Open terms) _ n = omega arith
 opened_more (Windows now shown) answer n = omega arith
 opened_more (FocusOn now d channel) answer n = omega arith
 opened_more (Notify now a) answer n = omega arith

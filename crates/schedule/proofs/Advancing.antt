@@ -41,7 +41,7 @@ scripted_plain (Windows now shown) e = record { receives_not = refl; opens_not =
 scripted_plain (FocusOn now y channel) e = record { receives_not = refl; opens_not = refl; notifies_not = refl }
 scripted_plain (Pilfer now channel device) e = record { receives_not = refl; opens_not = refl; notifies_not = refl }
 scripted_plain (Remove now channel) e = record { receives_not = refl; opens_not = refl; notifies_not = refl }
-scripted_plain (Open limit) e = absurd (omega (arith, e))
+scripted_plain (Open terms) e = absurd (omega (arith, e))
 scripted_plain (Notify now a) e = absurd (omega (arith, e))
 scripted_plain (Pump now) e = absurd (omega (arith, e))
 scripted_plain (Tick now) e = absurd (omega (arith, e))

@@ -34,13 +34,13 @@ none_scripted ds cs i le few =
     (omega (arith, length-map (take i cs) channel_of, length-take-le i cs le, le, few))).none_scripted
 
 pub one_opened : (ds : List ℕ) (cs : List Channel) (i : ℕ) (x : Channel) → i < length cs → x ≡ get_or cs i x
-    → answered ds (Open x.limit) (opened_first ds cs i) ≡ opened_first ds cs (i + 1)
+    → answered ds (Open x.terms) (opened_first ds cs i) ≡ opened_first ds cs (i + 1)
 one_opened ds cs i x lt is =
-    sym (extend_append ds [] (opens (map channel_of (take i cs))) (Open x.limit ∷ []))
+    sym (extend_append ds [] (opens (map channel_of (take i cs))) (Open x.terms ∷ []))
     ∙ ap (extend ds [])
     (sym (ap (λ ys. opens (map channel_of ys)) (ap (λ k. take k cs) (add-one i) ∙ take-suc cs i x lt ∙ ap (λ y. take i cs ++ y ∷ []) (sym is))
     ∙ ap opens (map-append channel_of (take i cs) (x ∷ []))
-    ∙ map-append (λ (c : ChannelOf). Open c.limit) (map channel_of (take i cs)) (channel_of x ∷ [])))
+    ∙ map-append (λ (c : ChannelOf). Open c.terms) (map channel_of (take i cs)) (channel_of x ∷ [])))
 
 pub all_opened : (ds : List ℕ) (cs : List Channel) → opened_first ds cs (length cs) ≡ extend ds [] (opens (map channel_of cs))
 all_opened ds cs = ap (λ ys. extend ds [] (opens (map channel_of ys))) (take-length cs)

@@ -50,7 +50,7 @@ quiet_at (Receive d) (Got m) c k never =
       | inr ne ↦ rw (ne_eqb d c (λ e. ne (sym e))) refl
     ]
 quiet_at (Receive d) answer c k never = refl
-quiet_at (Open limit) answer c k never = refl
+quiet_at (Open terms) answer c k never = refl
 quiet_at (Windows now shown) answer c k never = refl
 quiet_at (FocusOn now y channel) answer c k never = refl
 quiet_at (Notify now a) answer c k never = refl
@@ -62,13 +62,13 @@ quiet_at (Remove now d) answer c k never = refl
 
 part_case : (p : Part) → (p ≡ Receives) ⊎ (p ≡ Receives → ⊥)
 part_case Receives = inl refl
-part_case (Opens limit) = inr (λ e. cc)
+part_case (Opens terms) = inr (λ e. cc)
 part_case (Finishes seq) = inr (λ e. cc)
 part_case Untouched = inr (λ e. cc)
 
 pub others : (p : Part) (n : ℕ) → (p ≡ Receives → ⊥) → received_by p n ≡ n
 others Receives n never = absurd (never refl)
-others (Opens limit) n never = refl
+others (Opens terms) n never = refl
 others (Finishes seq) n never = refl
 others Untouched n never = refl
 
@@ -79,12 +79,12 @@ is_receive (Receive d) (Got m) c e =
       | inl same ↦ (m, ap Receive (sym same), refl)
       | inr ne ↦ let u : Untouched ≡ Receives = rw (ne_eqb c d ne) at e in absurd (cc u)
     ]
-is_receive (Open limit) (Opened k) c e = absurd (no_open (c == k) e)
+is_receive (Open terms) (Opened k) c e = absurd (no_open (c == k) e)
   where
-    no_open : (b : Bool) → cond b (Opens limit) Untouched ≡ Receives → ⊥
+    no_open : (b : Bool) → cond b (Opens terms) Untouched ≡ Receives → ⊥
     no_open true e = cc
     no_open false e = cc
-is_receive (Open limit) answer c e = absurd (cc e)
+is_receive (Open terms) answer c e = absurd (cc e)
 is_receive (Windows now shown) answer c e = absurd (cc e)
 is_receive (FocusOn now y channel) answer c e = absurd (cc e)
 is_receive (Notify now a) answer c e = absurd (cc e)

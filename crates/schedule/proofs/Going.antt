@@ -28,7 +28,7 @@ use Rattle.schedule.proofs.Receiving.{TookTo, took_to, caught_after}
 
 -- who is live after a step that opens nothing was live before
 pub live_back : (call : Call) (answer : Reply) (h : History) (c : ℕ) → is_opening call ≡ false → live ((call, answer) ∷ h) c ≡ true → live h c ≡ true
-live_back (Open limit) answer h c e y = absurd (true≢false e)
+live_back (Open terms) answer h c e y = absurd (true≢false e)
 live_back (Remove now k) answer h c e y = removed_live now k c answer (live h c) y
 live_back (Windows now shown) answer h c e y = y
 live_back (FocusOn now d channel) answer h c e y = y
@@ -41,7 +41,7 @@ live_back (Pilfer now channel device) answer h c e y = y
 
 -- a step that opens nothing leaves as many channels
 opened_same : (call : Call) (answer : Reply) (h : History) → is_opening call ≡ false → opened ((call, answer) ∷ h) ≡ opened h
-opened_same (Open limit) answer h e = absurd (true≢false e)
+opened_same (Open terms) answer h e = absurd (true≢false e)
 opened_same (Remove now k) answer h e = refl
 opened_same (Windows now shown) answer h e = refl
 opened_same (FocusOn now d channel) answer h e = refl

@@ -7,6 +7,7 @@ use Rattle.input_types.specs.declared.message.Body.TheVariants.{Key}
 use Rattle.input_types.specs.declared.message.Message.{Message}
 use Rattle.dispatch_calls.specs.declared.call.Call.TheVariants.{Open}
 use Rattle.dispatch_calls.specs.declared.reply.Reply.{Reply}
+use Rattle.dispatch_calls.specs.declared.terms.Terms.{Terms}
 use Rattle.dispatch_history.specs.History.{History, clock, live, opened, received, finished}
 use Rattle.dispatch_history.specs.Effect.{Effect, past_of, stream, sent_on}
 use Rattle.dispatch_history.specs.Effects.{step, said_at}
@@ -46,31 +47,31 @@ both_empty : (v : Bool) (ks : List KeyArgs) → ks ≡ [] → cond v [] ks ≡ [
 both_empty true ks e = refl
 both_empty false ks e = e
 
-nothing_said : (ds : List ℕ) (es : List Effect) (n limit c : ℕ) (answer : Reply) → Fresh ds es n → said_at ds (Open limit) answer es c ≡ []
-nothing_said ds es n limit c answer h =
-    rw (no_focus (past_of es) c h.nothing_requested, no_focus ((Open limit, answer) ∷ past_of es) c h.nothing_requested, h.no_keys c)
-    (by_live (live ((Open limit, answer) ∷ past_of es) c) (loses_all ((Open limit, answer) ∷ past_of es) (past_of es) c))
+nothing_said : (ds : List ℕ) (es : List Effect) (n c : ℕ) (terms : Terms) (answer : Reply) → Fresh ds es n → said_at ds (Open terms) answer es c ≡ []
+nothing_said ds es n c terms answer h =
+    rw (no_focus (past_of es) c h.nothing_requested, no_focus ((Open terms, answer) ∷ past_of es) c h.nothing_requested, h.no_keys c)
+    (by_live (live ((Open terms, answer) ∷ past_of es) c) (loses_all ((Open terms, answer) ∷ past_of es) (past_of es) c))
   where
     by_live : (v w : Bool) → cond v (map Key (map key_cancelled (cond w [] []) ++ []) ++ []) [] ≡ []
     by_live true true = refl
     by_live true false = refl
     by_live false w = refl
 
-opens_next : (n count : ℕ) (limit : ℕ) (h : History) → opened h ≡ n → n < 64 → opened ((Open limit, open_reply (opened h)) ∷ h) ≡ n + 1
-opens_next n count limit h e lt = let less : nat_lt (opened h) 64 ≡ true = grind (arith, nat_tests) in rw less (omega (arith, e))
+opens_next : (n : ℕ) (terms : Terms) (h : History) → opened h ≡ n → n < 64 → opened ((Open terms, open_reply (opened h)) ∷ h) ≡ n + 1
+opens_next n terms h e lt = let less : nat_lt (opened h) 64 ≡ true = grind (arith, nat_tests) in rw less (omega (arith, e))
 
-fresh_step : (ds : List ℕ) (es : List Effect) (n limit : ℕ) → Fresh ds es n → n < 64 → Fresh ds (answered ds (Open limit) es) (n + 1)
-fresh_step ds es n limit h lt =
-    let l : Lawful ds (step ds (Open limit) (open_reply (opened (past_of es))) es) = lawful_step ds (Open limit) (open_reply (opened (past_of es))) es h.lawful refl in
+fresh_step : (ds : List ℕ) (es : List Effect) (n : ℕ) (terms : Terms) → Fresh ds es n → n < 64 → Fresh ds (answered ds (Open terms) es) (n + 1)
+fresh_step ds es n terms h lt =
+    let l : Lawful ds (step ds (Open terms) (open_reply (opened (past_of es))) es) = lawful_step ds (Open terms) (open_reply (opened (past_of es))) es h.lawful refl in
     record {
       lawful = l;
-      opened_is = opens_next n 0 limit (past_of es) h.opened_is lt;
+      opened_is = opens_next n terms (past_of es) h.opened_is lt;
       nothing_requested = h.nothing_requested;
-      no_keys = λ w. both_empty (loses_all (past_of (answered ds (Open limit) es)) (past_of es) w) (filter (λ k. not (ends None k)) (keys es w)) (ap (filter (λ k. not (ends None k))) (h.no_keys w));
+      no_keys = λ w. both_empty (loses_all (past_of (answered ds (Open terms) es)) (past_of es) w) (filter (λ k. not (ends None k)) (keys es w)) (ap (filter (λ k. not (ends None k))) (h.no_keys w));
       no_stream =
           λ c.
-          (stepped ds (Open limit) (open_reply (opened (past_of es))) es c l (sound ds es c h.lawful)).stream_is
-          ∙ ap₂ (λ (bs : List Body) (ms : List Message). sent_on (clock (past_of (answered ds (Open limit) es))) bs ms) (nothing_said ds es n limit c (open_reply (opened (past_of es))) h) (h.no_stream c);
+          (stepped ds (Open terms) (open_reply (opened (past_of es))) es c l (sound ds es c h.lawful)).stream_is
+          ∙ ap₂ (λ (bs : List Body) (ms : List Message). sent_on (clock (past_of (answered ds (Open terms) es))) bs ms) (nothing_said ds es n c terms (open_reply (opened (past_of es))) h) (h.no_stream c);
       none_received = h.none_received;
       none_scripted = omega (arith, h.none_scripted);
       none_notified = omega (arith, h.none_notified);
@@ -80,8 +81,8 @@ pub fresh_more : (ds : List ℕ) (es : List Effect) (n : ℕ) (cs : List Channel
 fresh_more ds es n [] h le = let same : n ≡ n + 0 = omega arith in subst (Fresh ds es) same h
 fresh_more ds es n (c ∷ cs) h le =
     let same : n + 1 + length cs ≡ n + suc (length cs) = omega arith in
-    subst (Fresh ds (extend ds (answered ds (Open c.limit) es) (opens cs))) same
-    (fresh_more ds (answered ds (Open c.limit) es) (n + 1) cs (fresh_step ds es n c.limit h (omega (arith, le))) (omega (arith, le)))
+    subst (Fresh ds (extend ds (answered ds (Open c.terms) es) (opens cs))) same
+    (fresh_more ds (answered ds (Open c.terms) es) (n + 1) cs (fresh_step ds es n c.terms h (omega (arith, le))) (omega (arith, le)))
 
 pub fresh_start : (ds : List ℕ) → Fresh ds [] 0
 fresh_start ds =

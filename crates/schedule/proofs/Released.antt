@@ -69,7 +69,7 @@ sum_one f g c k (suc n) low high here others = by_place (λ le. sum_one f g c k 
 
 -- a step opens one channel, or none
 opened_or : (call : Call) (answer : Reply) (n : ℕ) → (opened_after call answer n ≡ n) ⊎ (opened_after call answer n ≡ suc n)
-opened_or (Open limit) (Opened k) n = inr refl
+opened_or (Open terms) (Opened k) n = inr refl
 opened_or call answer n = inl refl
 
 -- a step releases nothing
@@ -159,7 +159,7 @@ nothing_left ds es c l none = by_live (live (past_of es) c) refl
 -- who finishes nothing leaves as many messages finished
 finished_same : (call : Call) (answer : Reply) (h : History) (c : ℕ) → is_finishing call ≡ false → finished ((call, answer) ∷ h) c ≡ finished h c
 finished_same (Finish now channel seq) answer h c e = absurd (true≢false e)
-finished_same (Open limit) answer h c e = refl
+finished_same (Open terms) answer h c e = refl
 finished_same (Windows now shown) answer h c e = refl
 finished_same (FocusOn now d channel) answer h c e = refl
 finished_same (Notify now a) answer h c e = refl

@@ -47,7 +47,7 @@ finished_back (Finish now d seq) Done h c k e = by_channel (c == d) e
     by_channel true f = neither (seq == k) (list_any (λ n. n == k) (finished h c)) f
     by_channel false f = f
 finished_back (Finish now d seq) answer h c k e = e
-finished_back (Open limit) answer h c k e = e
+finished_back (Open terms) answer h c k e = e
 finished_back (Windows now shown) answer h c k e = e
 finished_back (FocusOn now y channel) answer h c k e = e
 finished_back (Notify now a) answer h c k e = e

@@ -10,7 +10,7 @@ is_receiving call = false
 
 -- a channel is opened
 abbrev pub is_opening : Call → Bool
-is_opening (Open limit) = true
+is_opening (Open terms) = true
 is_opening call = false
 
 -- the owner of a channel is done with a message

@@ -7,9 +7,9 @@ use Rattle.schedule.specs.declared.plan.Channel.{Channel}
 use Rattle.schedule.specs.declared.plan.Step.{Step}
 use Rattle.schedule.specs.declared.plan.Plan.{Plan as RunPlan}
 
--- a channel: its limit, whether its owner finishes messages, and how long after it took them
+-- a channel: what it is opened with, whether its owner finishes messages, and how long after it took them
 abbrev pub channel_of : Channel → ChannelOf
-channel_of c = record { limit = c.limit; finishes = c.finishes; finish_after = c.finish_after }
+channel_of c = record { terms = c.terms; finishes = c.finishes; finish_after = c.finish_after }
 
 -- a step of a script: its lane and its call
 abbrev pub step_of : Step → ScriptStep

@@ -13,9 +13,9 @@ use crate::keeping::Lines;
 use crate::plan::Plan;
 use crate::schedule::Schedule;
 use crate::stream::empty_streams;
-use dispatch_calls::Call;
+use dispatch_calls::{Call, Terms};
 use dispatcher::Dispatcher;
-use input_types::{Limit, Moment};
+use input_types::Moment;
 use std::alloc::{AllocError, Global};
 
 /// A run before its first call, which keeps these lines.
@@ -56,18 +56,18 @@ impl Schedule {
     {
         let mut run = unopened(alloc, plan, lines)?;
         for channel in &plan.channels {
-            run.open(channel.limit)?;
+            run.open(channel.terms)?;
         }
         Ok(run)
     }
 
     /// Opens a channel before anything else is done.
-    fn open(&mut self, limit: Limit) -> Result<(), AllocError>
+    fn open(&mut self, terms: Terms) -> Result<(), AllocError>
         ensures after { (how : LinesView) (plan : PlanView) (es : List Effect) → HasWith how plan es self.old
             → scripted (past_of es) ≡ 0
-            → OnOk result (HasWith how plan (answered plan.displays (CallView.Open limit) es) self.new) }
+            → OnOk result (HasWith how plan (answered plan.displays (CallView.Open terms) es) self.new) }
         ensures latest { self.new.latest ≡ self.old.latest }
     {
-        self.make(&Call::Open { limit }, 0)
+        self.make(&Call::Open { terms }, 0)
     }
 }

@@ -1,12 +1,12 @@
 //! What a run must do.
-use dispatch_calls::Call;
-use input_types::{Displays, Limit, Moment};
+use dispatch_calls::{Call, Terms};
+use input_types::{Displays, Moment};
 
 /// A channel of a run.
 #[derive(Clone, Copy, Debug, PartialEq, Eq)]
 pub struct Channel {
-    /// How long its owner may leave a message unfinished.
-    pub limit: Limit,
+    /// What it is opened with.
+    pub terms: Terms,
     /// Whether its owner finishes messages.
     pub finishes: bool,
     /// How long after receiving a message its owner finishes it, in microseconds, at most 10^15.

@@ -7,6 +7,7 @@
 #![tactic(auto)]
 
 use input_types::{DeviceId, DisplayId, Rotation};
+use key_repeat::Repeats;
 use session_plan::{Act, ChannelPlan, DeviceKind, DevicePlan, Display, Plan, PlanError, Step};
 use std::alloc::{AllocError, Global};
 use std::io;
@@ -146,7 +147,24 @@ fn devices_text(alloc: Global, plan: &Plan) -> Result<String, AllocError> {
     Ok(text)
 }
 
-/// The whole plan on one line. It includes the displays of the devices if there is more than one display.
+/// When held keys are repeated, unless it is as Android does.
+fn repeats_text(alloc: Global, repeats: Option<Repeats>) -> Result<String, AllocError> {
+    match repeats {
+        Some(repeats) => {
+            if repeats == Repeats::android() {
+                Ok(String::new(alloc))
+            } else {
+                let first = repeats.first.get();
+                let next = repeats.next.get();
+                format!(in alloc; " repeats {first} {next}")
+            }
+        }
+        None => String::from_str(alloc, " repeats nothing"),
+    }
+}
+
+/// The whole plan on one line. It includes the displays of the devices if there is more than one display, and the
+/// repeats of held keys if they are not Android's.
 fn plan_text(alloc: Global, plan: &Plan) -> Result<String, AllocError> {
     let end = plan.end.get();
     let mut text = String::from_str(alloc, "plan")?;
@@ -154,6 +172,7 @@ fn plan_text(alloc: Global, plan: &Plan) -> Result<String, AllocError> {
         text.push_str(extent_text(alloc, display)?.as_str())?;
     }
     text.push_str(format!(in alloc; " {end}")?.as_str())?;
+    text.push_str(repeats_text(alloc, plan.repeats)?.as_str())?;
     if plan.displays.len() > 1 {
         text.push_str(devices_text(alloc, plan)?.as_str())?;
     }

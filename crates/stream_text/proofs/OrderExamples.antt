@@ -3,6 +3,7 @@ use Rattle.std.specs.Prelude.{codes, ◌≡◌, [], ◌∷◌, Ok, Err, None, re
 use Rattle.std.specs.Fmt.{digits}
 use Rattle.dispatch_calls.specs.declared.call.Call.TheVariants as calls
 use Rattle.dispatch_calls.specs.declared.reply.Reply.TheVariants as replies
+use Rattle.dispatch_history.proofs.Worked.{usual}
 use Rattle.stream_text.specs.declared.order_line.OrderLine.TheVariants.{Reader, Script, Pump, Tick, Receive, Finish}
 use Rattle.stream_text.specs.Number.{number_at}
 use Rattle.stream_text.specs.Order.{finish_line, head_spelling, number_alone, order_line_of, order_spelling, receive_line, script_line}
@@ -134,7 +135,7 @@ pub sent_in_order :
     record { seat = 0; call = calls.Finish 0 1 2; reply = replies.Done }
     ∷ record { seat = 0; call = calls.Pump 0; reply = replies.Dispatched }
     ∷ record { seat = 7; call = calls.FocusOn 0 0 None; reply = replies.Done }
-    ∷ record { seat = 0; call = calls.Open 5000000; reply = replies.Opened 1 }
+    ∷ record { seat = 0; call = calls.Open usual; reply = replies.Opened 1 }
     ∷ []
     )
     ≡ Script 1 ∷ Pump ∷ Finish 1 2 ∷ []

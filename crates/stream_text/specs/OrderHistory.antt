@@ -22,7 +22,7 @@ call_lines _ = []
 
 -- a call of this lane, where one made it
 abbrev pub made_by : Option ℕ → Call → List OrderLine
-made_by lane (calls.Open limit) = []
+made_by lane (calls.Open terms) = []
 made_by (Some lane) call = Script lane ∷ []
 made_by None call = call_lines call
 

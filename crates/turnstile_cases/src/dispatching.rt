@@ -3,10 +3,11 @@ ghost use Rattle.std.specs.Prelude.{◌≡◌};
 ghost use Rattle.turnstile.specs.Seats.{view};
 ghost use Rattle.input_service.specs.Services.{IsOf};
 
-use dispatch_calls::{Call, Reply};
+use dispatch_calls::{Call, Reply, Terms};
 use dispatch_core::Core;
 use input_service::{Seat, Service};
 use input_types::{Displays, Limit, Moment};
+use key_repeat::Repeats;
 use std::alloc::Global;
 use std::io;
 use std::io::ErrorKind;
@@ -14,12 +15,15 @@ use std::sync::Wait;
 use std::thread::{Threads, join_mut};
 use turnstile::Placed;
 
-/// A new channel, with five seconds for each message.
+/// A new channel, with five seconds for each message and Android's repeats.
 fn open() -> io::Result<Call> {
     let Some(limit) = Limit::new(5_000_000) else {
         return Err(ErrorKind::InvalidInput.into());
     };
-    Ok(Call::Open { limit })
+    let repeats = Some(Repeats::android());
+    Ok(Call::Open {
+        terms: Terms { limit, repeats },
+    })
 }
 
 /// The name of a call.

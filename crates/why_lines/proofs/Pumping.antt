@@ -4,12 +4,13 @@ use Rattle.std.specs.List.{list_any}
 use Rattle.std.proofs.lemmas.Bool.{true≢false}
 use Rattle.input_types.specs.declared.key.KeyMsg.{KeyMsg}
 use Rattle.input_types.specs.declared.message.Args.{Args}
-use Rattle.key_repeat.specs.Due.{Sent, delay_after, due_of, is_repeated, next_of, repeated}
+use Rattle.key_repeat.specs.Due.{Sent, delay_after, due_after, due_by, is_repeated, next_of, repeated}
+use Rattle.key_repeat.specs.declared.delays.Repeats.{Repeats}
 use Rattle.dispatch_calls.specs.declared.call.Call.TheVariants.{Pump}
 use Rattle.dispatch_calls.specs.declared.reply.Reply.TheVariants.{Dispatched, Repeated, Idle}
 use Rattle.dispatch_history.specs.Effect.{Effect, past_of}
 use Rattle.dispatch_history.specs.Effects.{effect_of}
-use Rattle.dispatch_history.specs.History.{clock}
+use Rattle.dispatch_history.specs.History.{clock, repeats_of}
 use Rattle.dispatch_history.specs.Keys.{keys, same_key}
 use Rattle.dispatch_history.specs.KeySent.{last_key, repeat_due, while_held}
 use Rattle.dispatch_history.specs.Queue.{args_of, inbound}
@@ -51,16 +52,19 @@ next_words (Some n) = repeat_word n.1 n.0 ∷ []
 pub next_sent : (es : List Effect) → is_some (repeat_due es) ≡ true → repeat_words (last_key es) ≡ next_words (next_of (while_held es (last_key es)))
 next_sent es e = by_last (last_key es) e
   where
-    by_repeat : (s : Sent) (b : Bool) → is_repeated s.key ≡ b → is_some (due_of (Some s)) ≡ true
+    by_repeat : (delays : Option Repeats) (s : Sent) (b : Bool) → is_repeated s.key ≡ b → is_some (due_after delays s) ≡ true
         → repeat_words (Some s) ≡ next_words (cond b (Some (s.channel, repeated s.key)) None)
-    by_repeat s true q e = refl
-    by_repeat s false q e = absurd (true≢false (sym e ∙ ap (λ b. is_some (cond b (Some (s.clock + delay_after s.key.repeat)) None)) q))
+    by_repeat delays s true q e = refl
+    by_repeat None s false q e = absurd (true≢false (sym e))
+    by_repeat (Some delays) s false q e =
+        absurd (true≢false (sym e ∙ ap (λ b. is_some (cond b (Some (s.clock + delay_after delays s.key.repeat)) None)) q))
 
-    by_held : (s : Sent) (b : Bool) → is_some (due_of (cond b (Some s) None)) ≡ true → repeat_words (Some s) ≡ next_words (next_of (cond b (Some s) None))
-    by_held s true e = by_repeat s (is_repeated s.key) refl e
+    by_held : (s : Sent) (b : Bool) → is_some (due_by (repeats_of (past_of es)) (cond b (Some s) None)) ≡ true
+        → repeat_words (Some s) ≡ next_words (next_of (cond b (Some s) None))
+    by_held s true e = by_repeat (repeats_of (past_of es) s.channel) s (is_repeated s.key) refl e
     by_held s false e = absurd (true≢false (sym e))
 
-    by_last : (o : Option Sent) → is_some (due_of (while_held es o)) ≡ true → repeat_words o ≡ next_words (next_of (while_held es o))
+    by_last : (o : Option Sent) → is_some (due_by (repeats_of (past_of es)) (while_held es o)) ≡ true → repeat_words o ≡ next_words (next_of (while_held es o))
     by_last None e = absurd (true≢false (sym e))
     by_last (Some s) e = by_held s (list_any (same_key s.key.key) (keys es s.channel)) e
 

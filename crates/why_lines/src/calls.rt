@@ -52,7 +52,7 @@ fn explain(lines: &mut Vec<u8>, dispatcher: &mut Dispatcher, call: &Call) -> Res
     ensures made { MakesAsSaid result call.now dispatcher.old dispatcher.new }
 {
     match call {
-        Call::Open { limit } => open(lines, dispatcher, *limit),
+        Call::Open { terms } => open(lines, dispatcher, *terms),
         Call::Pump { now } => pump(lines, dispatcher, *now),
         Call::Tick { now } => tick(lines, dispatcher, *now),
         Call::Finish { now, channel, seq } => finish(lines, dispatcher, *now, *channel, *seq),

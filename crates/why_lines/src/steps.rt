@@ -9,9 +9,9 @@ use crate::losing::add_removal;
 use crate::owners::{add_finish, add_pilfer};
 use crate::pumps::add_pump;
 use crate::ticks::add_tick;
-use dispatch_calls::Call;
+use dispatch_calls::{Call, Terms};
 use dispatcher::Dispatcher;
-use input_types::{DeviceId, Limit, Moment};
+use input_types::{DeviceId, Moment};
 
 /// Makes a pump, and adds its lines.
 pub(crate) fn pump(
@@ -106,18 +106,18 @@ pub(crate) fn remove(
     after_call(add_changes(lines, clock, &before, &after))
 }
 
-/// Opens a channel with a limit, and adds the lines of the changes of the focus.
+/// Opens a channel on these terms, and adds the lines of the changes of the focus.
 pub(crate) fn open(
     lines: &mut Vec<u8>,
     dispatcher: &mut Dispatcher,
-    limit: Limit,
+    terms: Terms,
 ) -> Result<(), OutOfMemory>
-    ensures known { ExplainsCall result (Open limit) lines.old.items lines.new.items dispatcher.old dispatcher.new }
-    ensures made { MakesAsSaid result (Open limit) dispatcher.old dispatcher.new }
+    ensures known { ExplainsCall result (Open terms) lines.old.items lines.new.items dispatcher.old dispatcher.new }
+    ensures made { MakesAsSaid result (Open terms) dispatcher.old dispatcher.new }
 {
     let clock = Moment::zero().later(dispatcher.clock());
     let before = all_focused(dispatcher);
-    take_step(dispatcher, &Call::Open { limit })?;
+    take_step(dispatcher, &Call::Open { terms })?;
     let after = all_focused(dispatcher);
     after_call(add_changes(lines, clock, &before, &after))
 }

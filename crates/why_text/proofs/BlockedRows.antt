@@ -8,7 +8,7 @@ use Rattle.window_snapshot.specs.declared.window.Window.{Window}
 use Rattle.dispatch_calls.specs.declared.call.Call.TheVariants.{Open, Windows}
 use Rattle.routing_rules.proofs.Worked.{owned}
 use Rattle.dispatch_history.specs.Legal.{run}
-use Rattle.dispatch_history.proofs.Worked.{window, at, moved, open_two, one_display}
+use Rattle.dispatch_history.proofs.Worked.{usual, window, at, moved, open_two, one_display}
 use Rattle.why_text.specs.Words.{channels_that, ids_that}
 use Rattle.why_text.specs.Text.{why_text}
 
@@ -19,7 +19,7 @@ all c f = window c f 0 0 1080 2400
 -- the text of such windows and the finger
 abbrev why_under : List Window → List ℕ
 why_under windows =
-    why_text one_display (run one_display (reverse (open_two ++ Open 5000000 ∷ Windows 0 windows ∷ [] ++ moved 1000000 Down 0 (at 0 540 1200 ∷ []))))
+    why_text one_display (run one_display (reverse (open_two ++ Open usual ∷ Windows 0 windows ∷ [] ++ moved 1000000 Down 0 (at 0 540 1200 ∷ []))))
 
 abbrev two_shown : List ℕ
 two_shown = codes "0 windows 1@0:0,0,1080,2400 2@0:0,0,1080,2400\n"

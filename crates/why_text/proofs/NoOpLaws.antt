@@ -39,8 +39,8 @@ focus_law (Finish now channel seq) reply h e = stays h
 focus_law (Pilfer now channel device) reply h e = stays h
 focus_law (Windows now ws) reply h e = absurd (both_ways true e refl)
 focus_law (FocusOn now display channel) reply h e = absurd (both_ways true e refl)
-focus_law (Open limit) (Opened k) h e = absurd (both_ways true e refl)
-focus_law (Open limit) reply h e = stays h
+focus_law (Open terms) (Opened k) h e = absurd (both_ways true e refl)
+focus_law (Open terms) reply h e = stays h
 focus_law (Remove now channel) Done h e = absurd (both_ways true e refl)
 focus_law (Remove now channel) reply h e = stays h
 

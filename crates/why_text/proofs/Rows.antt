@@ -6,7 +6,7 @@ use Rattle.input_types.specs.declared.motion.MotionAction.TheVariants.{Down, Up,
 use Rattle.dispatch_calls.specs.declared.call.Call.{Call}
 use Rattle.dispatch_calls.specs.declared.call.Call.TheVariants.{Open, Windows, FocusOn, Pump, Tick, Receive, Finish, Pilfer, Remove}
 use Rattle.dispatch_history.specs.Legal.{run}
-use Rattle.dispatch_history.proofs.Worked.{window, on, of, at, motion, cancelled, key, dispatch, moved, open_two, one_display, two_displays}
+use Rattle.dispatch_history.proofs.Worked.{usual, window, on, of, at, motion, cancelled, key, dispatch, moved, open_two, one_display, two_displays}
 use Rattle.why_text.specs.Words.{channels_that, ids_that}
 use Rattle.why_text.specs.Text.{why_text}
 
@@ -178,7 +178,7 @@ the_focus_of_two_displays = refl
 
 -- The focus is requested for a channel that is not there. It has the focus once it is opened.
 a_channel_that_is_not_there :
-    why (open_two ++ Windows 0 (window 3 0 0 0 540 2400 ∷ []) ∷ FocusOn 1000 0 (Some 9) ∷ FocusOn 2000 0 (Some 3) ∷ Open 5000000 ∷ [])
+    why (open_two ++ Windows 0 (window 3 0 0 0 540 2400 ∷ []) ∷ FocusOn 1000 0 (Some 9) ∷ FocusOn 2000 0 (Some 3) ∷ Open usual ∷ [])
     ≡ codes "0 windows 3@0:0,0,540,2400\n1000 request 0 9\n2000 request 0 3\n2000 focus 0 - 3\n2000 target - 3\n"
 unfolding digits channels_that ids_that
 a_channel_that_is_not_there = refl

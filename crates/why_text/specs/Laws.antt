@@ -117,7 +117,7 @@ SilentLaw =
 -- a step that can change the focus of a display, or the window that keys go to: a channel is opened or removed, windows are shown, or a
 -- focus is requested
 abbrev pub may_move_focus : Call → Reply → Bool
-may_move_focus (Open limit) (Opened k) = true
+may_move_focus (Open terms) (Opened k) = true
 may_move_focus (Windows now ws) reply = true
 may_move_focus (FocusOn now display channel) reply = true
 may_move_focus (Remove now channel) Done = true

@@ -10,6 +10,7 @@ use Rattle.window_snapshot.specs.Mask.{mask_has}
 use Rattle.dispatch_history.specs.Effects.{channels}
 use Rattle.dispatcher.specs.DispatchTables.Dues.{anr_in, anrs_in}
 use Rattle.dispatcher.specs.DispatchChannels.Table.{channel_in}
+use Rattle.dispatch_history.specs.History.{no_terms}
 
 cons_append : (o : Option Anr) (xs ys zs : List Anr) → zs ≡ xs ++ ys → cons_option o zs ≡ cons_option o xs ++ ys
 cons_append None xs ys zs e = e
@@ -50,7 +51,7 @@ pub noted_more : (clock mask place : ℕ) (ss : List ChannelState) (x : ChannelS
     → new ≡ old ++ anrs_in clock mask (channel_in ss) (place + 1)
 noted_more clock mask place ss x old now new b o so lt is has noted then =
     let here : x ≡ channel_in ss (suc place) =
-    is ∙ get_or_default ss place x (opened_with 0) lt ∙ ap (λ k. get_or ss k (opened_with 0)) (back place) in
+    is ∙ get_or_default ss place x (opened_with no_terms) lt ∙ ap (λ k. get_or ss k (opened_with no_terms)) (back place) in
     let next : o ≡ cond (mask_has mask (suc place)) (anr_in clock (suc place) (channel_in ss (suc place))) None =
     noted
     ∙ ap (λ t. cond t (anr_in clock (place + 1) x) None) (has ∙ ap (mask_has mask) (add-one place))

@@ -19,6 +19,7 @@ use Rattle.dispatcher.specs.CancelSynthesis.Tracked.{Tracked, Tracks, pointers_o
 use Rattle.dispatcher.specs.DispatchChannels.Table.{Table, channel_of, input_of, unsent, but_for_room, NoLessRoom}
 use Rattle.dispatcher.specs.DispatchChannels.Heard.{body_from}
 use Rattle.dispatcher.specs.DispatchChannels.Changes.{Sends, SendsPast}
+use Rattle.dispatch_history.specs.History.{no_terms}
 
 -- a channel and what its window was sent, once both have one thing more
 pub sends : (t : Table) (c : ℕ) (body heard : Body) (o : Pixel) (clock : ℕ) (x s : ChannelState) (j i : Tracked)
@@ -117,7 +118,7 @@ input_room (x ∷ xs) (suc i) (suc j) s d h = input_room xs i j s d h
 pub more_in_channel : (t : Table) (c : ℕ) (x s : ChannelState) → x ≡ channel_of t c → x.spare ≤ s.spare
     → NoLessRoom t (record t { channels = set t.channels (c - 1) s })
 more_in_channel t c x s from le k = (
-  channel_room t.channels (c - 1) (k - 1) s (opened_with 0) (subst (λ y. y.spare ≤ s.spare) from le),
+  channel_room t.channels (c - 1) (k - 1) s (opened_with no_terms) (subst (λ y. y.spare ≤ s.spare) from le),
   omega arith,
 )
 
@@ -125,7 +126,7 @@ pub more_in_both : (t : Table) (c : ℕ) (x s : ChannelState) (j i : Tracked)
     → x ≡ channel_of t c → x.spare ≤ s.spare → j ≡ input_of t c → j.spare ≤ i.spare
     → NoLessRoom t (record t { channels = set t.channels (c - 1) s; inputs = set t.inputs (c - 1) i })
 more_in_both t c x s j i from le was more k = (
-  channel_room t.channels (c - 1) (k - 1) s (opened_with 0) (subst (λ y. y.spare ≤ s.spare) from le),
+  channel_room t.channels (c - 1) (k - 1) s (opened_with no_terms) (subst (λ y. y.spare ≤ s.spare) from le),
   input_room t.inputs (c - 1) (k - 1) i unsent (subst (λ y. y.spare ≤ i.spare) was more),
 )
 

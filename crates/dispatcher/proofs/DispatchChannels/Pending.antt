@@ -8,7 +8,7 @@ use Rattle.dispatcher.specs.DispatchTables.Dues.{due_in}
 pub none_oldest : (b : Bool) (s : ChannelState) → b ≡ true → due_in b s ≡ None → oldest_of s ≡ None
 none_oldest b s able none = by_oldest (oldest_of s) (sym (ap (λ v. due_in v s) able) ∙ none)
   where
-    by_oldest : (o : Option (ℕ × ℕ)) → option_map (λ p. p.1 + s.limit) o ≡ None → o ≡ None
+    by_oldest : (o : Option (ℕ × ℕ)) → option_map (λ p. p.1 + s.terms.limit) o ≡ None → o ≡ None
     by_oldest None e = refl
     by_oldest (Some p) e = absurd (cc e)
 

@@ -15,18 +15,20 @@ use Rattle.dispatcher.specs.DispatchChannels.Table.{channel_in}
 use Rattle.dispatcher.specs.DispatchChannels.Changes.{new_channel}
 use Rattle.dispatcher.specs.DispatchChannels.Whole.{DuesAre, IsWhole}
 use Rattle.dispatcher.proofs.DispatchChannels.Picking.{channel_low, channel_high, has-without}
+use Rattle.dispatch_history.specs.History.{no_terms}
+use Rattle.dispatch_calls.specs.declared.terms.Terms.{Terms}
 
 -- the channel in a place that was written
 pub channel_set_same : (ss : List ChannelState) (c : ℕ) (s : ChannelState) → 1 ≤ c → c ≤ length ss → channel_in (set ss (c - 1) s) c ≡ s
-channel_set_same ss c s low high = get_or-set_same ss (c - 1) s (opened_with 0) (omega arith)
+channel_set_same ss c s low high = get_or-set_same ss (c - 1) s (opened_with no_terms) (omega arith)
 
 pub channel_set_other : (ss : List ChannelState) (c k : ℕ) (s : ChannelState) → 1 ≤ c → 1 ≤ k → k ≢ c → channel_in (set ss (c - 1) s) k ≡ channel_in ss k
-channel_set_other ss c k s low from other = get_or-set_other ss (c - 1) (k - 1) s (opened_with 0) (λ e. other (omega arith))
+channel_set_other ss c k s low from other = get_or-set_other ss (c - 1) (k - 1) s (opened_with no_terms) (λ e. other (omega arith))
 
 -- nothing is due in a channel without messages
-due_opened : (b : Bool) (limit : ℕ) → due_in b (new_channel limit) ≡ None
-due_opened true limit = refl
-due_opened false limit = refl
+due_opened : (b : Bool) (terms : Terms) → due_in b (new_channel terms) ≡ None
+due_opened true terms = refl
+due_opened false terms = refl
 
 -- one channel changes, and its due is set; no other becomes able or not
 pub dues_set : (dues : List (Option ℕ)) (able later : ℕ) (ss : List ChannelState) (c : ℕ) (s : ChannelState)
@@ -127,11 +129,11 @@ with_more a b mask k c h has =
     more false false t f e = e
 
 -- one channel more, with the next number
-pub whole_opened : (ss : List ChannelState) (inputs live able : ℕ) (dues : List (Option ℕ)) (limit number : ℕ) (more : List ChannelState) (later : ℕ)
-    → IsWhole ss inputs live able dues → length ss < 64 → number ≡ length ss + 1 → more ≡ ss ++ new_channel limit ∷ [] → later ≡ inputs + 1
+pub whole_opened : (ss : List ChannelState) (inputs live able : ℕ) (dues : List (Option ℕ)) (terms : Terms) (number : ℕ) (more : List ChannelState) (later : ℕ)
+    → IsWhole ss inputs live able dues → length ss < 64 → number ≡ length ss + 1 → more ≡ ss ++ new_channel terms ∷ [] → later ≡ inputs + 1
     → IsWhole more later (mask_with live number) (mask_with able number) dues
-whole_opened ss inputs live able dues limit number more later h room is so also =
-    let size : length more ≡ length ss + 1 = ap length so ∙ length-append ss (new_channel limit ∷ []) in
+whole_opened ss inputs live able dues terms number more later h room is so also =
+    let size : length more ≡ length ss + 1 = ap length so ∙ length-append ss (new_channel terms ∷ []) in
     record {
       as_many = omega (arith, h.as_many, also, size);
       few = omega (arith, size, room);
@@ -144,21 +146,21 @@ whole_opened ss inputs live able dues limit number more later h room is so also 
       dues_are = λ c. elim (cases_eq c number) [
         | inl new ↦
             let at : c - 1 ≡ length ss = omega (arith, new, is) in
-            let there : channel_in more c ≡ new_channel limit =
-            ap₂ (λ xs n. get_or xs n (opened_with 0)) so at ∙ get_or-append_seam ss (new_channel limit) [] (opened_with 0) in
+            let there : channel_in more c ≡ new_channel terms =
+            ap₂ (λ xs n. get_or xs n (opened_with no_terms)) so at ∙ get_or-append_seam ss (new_channel terms) [] (opened_with no_terms) in
             not_due ss inputs live able dues c h (omega (arith, new, is))
-            ∙ sym (ap (due_in (mask_has (mask_with able number) c)) there ∙ due_opened (mask_has (mask_with able number) c) limit)
+            ∙ sym (ap (due_in (mask_has (mask_with able number) c)) there ∙ due_opened (mask_has (mask_with able number) c) terms)
         | inr other ↦ others c other size
       ];
     }
   where
     past : (c : ℕ) → length more ≡ length ss + 1 → length ss < c → c ≢ number → channel_in more c ≡ channel_in ss c
     past c size above other =
-        get_or_past more (c - 1) (opened_with 0) (omega (arith, size, above, other, is))
-        ∙ sym (get_or_past ss (c - 1) (opened_with 0) (omega (arith, above)))
+        get_or_past more (c - 1) (opened_with no_terms) (omega (arith, size, above, other, is))
+        ∙ sym (get_or_past ss (c - 1) (opened_with no_terms) (omega (arith, above)))
 
     within : (c : ℕ) → 1 ≤ c → c ≤ length ss → channel_in more c ≡ channel_in ss c
-    within c low high = ap (λ xs. channel_in xs c) so ∙ get_or_append_left ss (new_channel limit ∷ []) (opened_with 0) (c - 1) (omega (arith, low, high))
+    within c low high = ap (λ xs. channel_in xs c) so ∙ get_or_append_left ss (new_channel terms ∷ []) (opened_with no_terms) (c - 1) (omega (arith, low, high))
 
     split : (c : ℕ) → (c ≤ length ss) ⊎ (length ss < c)
     split c = grind arith

@@ -14,7 +14,7 @@ use Rattle.window_snapshot.proofs.Masks.{mask_has-zero}
 use Rattle.routing_rules.specs.Scene.{Scene, Step, Moves}
 use Rattle.routing_rules.specs.Given.{changed, mark}
 use Rattle.routing_rules.specs.Taking.{takes, pilfers}
-use Rattle.routing_rules.specs.Outgoing.{after, listing, moves, outgoing, sent_motion}
+use Rattle.routing_rules.specs.Outgoing.{after, listing, moves, sent_motion}
 use Rattle.touch_state.specs.Touches.{Touches}
 use Rattle.touch_state.proofs.Sets.{and_true}
 use Rattle.route_split.specs.declared.mark.Mark.TheVariants.{NoOp}

@@ -19,6 +19,7 @@ use Rattle.dispatcher.specs.declared.dispatch_round.round.Round.{Round}
 use Rattle.dispatcher.specs.DispatchRound.Bodies.{keys_to}
 use Rattle.dispatcher.specs.DispatchRound.Rounds.{most_motions, most_bodies, most_sent, is_concerned, IsFew, HasMostRoom, HasRoom, HasMadeRoom, IsLeft, MakesRoom}
 use Rattle.dispatcher.proofs.DispatchRound.Reaching.{not_reached, reached_next, reached_other}
+use Rattle.dispatch_history.specs.History.{no_terms}
 
 -- more room is no change but of the room
 map_set : {A B : Type 0} (f : A → B) (xs : List A) (k : ℕ) (v d : A) → f v ≡ f (get_or xs k d) → map f (set xs k v) ≡ map f xs
@@ -29,7 +30,7 @@ map_set f (x ∷ xs) (suc k) v d e = ap (λ ys. f x ∷ ys) (map_set f xs k v d 
 pub same_but_room : (c n : ℕ) (t : Table) → but_for_room (with_room c n t) ≡ but_for_room t
 same_but_room c n t =
     ap₂ (λ ss is. let u : Table = record t { channels = ss; inputs = is } in u)
-    (map_set (λ y. let z : ChannelState = record y { spare = 0 } in z) t.channels (c - 1) (with_spare n (channel_of t c)) (opened_with 0) refl)
+    (map_set (λ y. let z : ChannelState = record y { spare = 0 } in z) t.channels (c - 1) (with_spare n (channel_of t c)) (opened_with no_terms) refl)
     (map_set (λ y. let z : Tracked = record y { spare = 0 } in z) t.inputs (c - 1) (tracked_with_spare n (input_of t c)) unsent refl)
 
 -- room in one channel

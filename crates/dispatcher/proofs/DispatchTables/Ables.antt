@@ -24,10 +24,11 @@ use Rattle.dispatcher.proofs.DispatchTables.Lawfuls.{lawful_last, lawful_always}
 use Rattle.dispatcher.proofs.DispatchTables.Masking.{mask_has-mask_of, mask_of-low, among}
 use Rattle.dispatcher.proofs.DispatchTables.Unopened.{unopened_not_live, done_live}
 use Rattle.dispatcher.proofs.DispatchTables.AbleMasks.{with_one, less_one, less_named, finished_mask}
+use Rattle.dispatch_calls.specs.declared.terms.Terms.{Terms}
 
 few_step : (call : Call) (answer : Reply) (es : List Effect) → answer ≡ reply_to es call → opened (past_of es) ≤ 64
     → opened_after call answer (opened (past_of es)) ≤ 64
-few_step (Open limit) answer es r le =
+few_step (Open terms) answer es r le =
     elim (cases_cond (nat_lt (opened (past_of es)) 64) (Opened (opened (past_of es) + 1)) Full answer r) [
       | inl e ↦ by_count (nat_lt (opened (past_of es)) 64) refl r
       | inr e ↦ rw e le
@@ -35,7 +36,7 @@ few_step (Open limit) answer es r le =
   where
     by_count : (b : Bool) → nat_lt (opened (past_of es)) 64 ≡ b
         → answer ≡ cond b (Opened (opened (past_of es) + 1)) Full
-        → opened_after (Open limit) answer (opened (past_of es)) ≤ 64
+        → opened_after (Open terms) answer (opened (past_of es)) ≤ 64
     by_count true e q = rw q (ltb-true (opened (past_of es)) 64 e)
     by_count false e q = rw q le
 few_step _ answer es r le = le
@@ -154,7 +155,7 @@ by_call : (ds : List ℕ) (es : List Effect) (c : ℕ) (call : Call) (answer : R
     → answer ≡ reply_to es call
     → (live_after call answer c (live (past_of es) c) && not (is_named_by call answer c || unresponsive es c && not (is_finish_of call answer c && not late)))
     ≡ able_after call answer late c (live (past_of es) c && not (unresponsive es c))
-by_call ds es c (Open limit) (Opened k) late l r =
+by_call ds es c (Open terms) (Opened k) late l r =
     opens (c == k) (live (past_of es) c) (unresponsive es c)
     (λ e. unopened_responds ds es c l (let same : c ≡ k = eqb-true c k e in let lt = next_opened (opened (past_of es)) k r in omega (arith, same, lt)))
 by_call ds es c (Remove now k) Done late l r = removes (c == k) (live (past_of es) c) (unresponsive es c)
@@ -176,9 +177,9 @@ from_to : (k : ℕ) → 1 ≤ k → k ≤ 64 → is_channel k ≡ true
 from_to k from to = and_from (nat_lt 0 k) (nat_le k 64) (lt-ltb 0 k (omega (arith, from))) (le-leb k 64 to)
 
 -- a channel that is opened, removed or finished has a number of a channel
-opened_number : (ds : List ℕ) (es : List Effect) (limit k : ℕ) → Lawful ds es → Opened k ≡ reply_to es (Open limit)
+opened_number : (ds : List ℕ) (es : List Effect) (terms : Terms) (k : ℕ) → Lawful ds es → Opened k ≡ reply_to es (Open terms)
     → is_channel k ≡ true
-opened_number ds es limit k l r =
+opened_number ds es terms k l r =
     by_count (nat_lt (opened (past_of es)) 64) refl r
   where
     by_count : (b : Bool) → nat_lt (opened (past_of es)) 64 ≡ b
@@ -200,7 +201,7 @@ was_live false e = absurd (cc e)
 live_mask : (ds : List ℕ) (es : List Effect) (mask c : ℕ) (call : Call) (answer : Reply) → Lawful ds es
     → answer ≡ reply_to es call
     → mask_has (live_mask_after call answer mask) c ≡ live_after call answer c (mask_has mask c)
-live_mask ds es mask c (Open limit) (Opened k) l r = with_one mask k c (opened_number ds es limit k l r)
+live_mask ds es mask c (Open terms) (Opened k) l r = with_one mask k c (opened_number ds es terms k l r)
 live_mask ds es mask c (Remove now k) Done l r = less_one mask k c (live_channel ds es k l (was_live (live (past_of es) k) r))
 live_mask ds es mask c call answer l r = refl
 
@@ -212,7 +213,7 @@ live_mask_law ds call answer es mask l e =
 able_mask : (ds : List ℕ) (es : List Effect) (mask c : ℕ) (call : Call) (answer : Reply) (late : ℕ → Bool)
     → Lawful ds es → answer ≡ reply_to es call
     → mask_has (able_mask_after call answer late mask) c ≡ able_after call answer (late c) c (mask_has mask c)
-able_mask ds es mask c (Open limit) (Opened k) late l r = with_one mask k c (opened_number ds es limit k l r)
+able_mask ds es mask c (Open terms) (Opened k) late l r = with_one mask k c (opened_number ds es terms k l r)
 able_mask ds es mask c (Remove now k) Done late l r = less_one mask k c (live_channel ds es k l (was_live (live (past_of es) k) r))
 able_mask ds es mask c (Tick now) (Named other) late l r =
     let same : other ≡ mask_of (named es now) = same_named other (mask_of (named es now)) r in

@@ -14,7 +14,7 @@ use Rattle.dispatcher.specs.DispatchTables.Channel.{NumberedFrom, part_of, with_
 use Rattle.dispatcher.specs.InputChannel.State.{published_at}
 use Rattle.dispatcher.proofs.DispatchTables.Lawfuls.{lawful_last, lawful_always}
 use Rattle.dispatcher.proofs.DispatchTables.Numbering.{numbered-reverse}
-use Rattle.dispatcher.proofs.DispatchTables.Parts.{limit_part, received_part, finished_part, can_be}
+use Rattle.dispatcher.proofs.DispatchTables.Parts.{terms_part, received_part, finished_part, can_be}
 use Rattle.dispatcher.proofs.DispatchTables.Stepping.{Sound, Stepped, stepped_sound, stepped_channel}
 
 pub numbered : (ds : List ℕ) (es : List Effect) (c : ℕ) → Lawful ds es → NumberedFrom 0 (reverse (stream es c))
@@ -28,7 +28,7 @@ stepped ds call answer es c l h =
     record {
       sound = h;
       can = can_be es c call answer last.0;
-      limit_is = limit_part call answer c _;
+      terms_is = terms_part call answer c _;
       received_is = received_part call answer c _;
       finished_is = finished_part call answer c _;
       stream_is =

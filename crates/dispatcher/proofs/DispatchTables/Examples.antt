@@ -7,7 +7,7 @@ use Rattle.dispatch_calls.specs.declared.reply.Reply.TheVariants.{Opened, Done, 
 use Rattle.dispatch_history.specs.Effect.{Effect}
 use Rattle.dispatch_history.specs.Due.{first_due}
 use Rattle.dispatch_history.specs.Legal.{run}
-use Rattle.dispatch_history.proofs.Worked.{one_display, window, at, motion, moved, says}
+use Rattle.dispatch_history.proofs.Worked.{usual, one_display, window, at, motion, moved, says}
 use Rattle.dispatcher.specs.InputChannel.State.{ChannelState}
 use Rattle.dispatcher.specs.DispatchTables.Channel.{channel_at, part_of, Finishes, Untouched}
 use Rattle.dispatcher.specs.DispatchTables.Masks.{live_mask_after, able_mask_after}
@@ -16,7 +16,7 @@ use Rattle.dispatcher.specs.DispatchTables.Dues.{due_moment, due_in, anrs_in}
 -- A window is sent a down and a move, and its owner receives the down.
 abbrev two_sent : List Call
 two_sent =
-    Open 5000000 ∷ Windows 0 (window 1 0 0 0 1080 2400 ∷ []) ∷ [] ++ moved 0 Down 0 (at 0 540 1200 ∷ []) ++ moved 1000000 Move 0 (at 0 550 1200 ∷ [])
+    Open usual ∷ Windows 0 (window 1 0 0 0 1080 2400 ∷ []) ∷ [] ++ moved 0 Down 0 (at 0 540 1200 ∷ []) ++ moved 1000000 Move 0 (at 0 550 1200 ∷ [])
     ++ Receive 1 ∷ []
 
 abbrev after_calls : List Call → List Effect
@@ -25,7 +25,7 @@ after_calls calls = run one_display (reverse calls)
 abbrev one_received : ChannelState
 one_received =
     record {
-      limit = 5000000;
+      terms = usual;
       gone = 1;
       messages = says 2 1000000 (motion Move 0 (at 0 550 1200 ∷ [])) ∷ [];
       published = 2;
@@ -48,7 +48,7 @@ and_so_it_is_by_what_is_kept = refl
 abbrev one_finished : ChannelState
 one_finished =
     record {
-      limit = 5000000;
+      terms = usual;
       gone = 1;
       messages = says 2 1000000 (motion Move 0 (at 0 550 1200 ∷ [])) ∷ [];
       published = 2;
@@ -78,7 +78,7 @@ the_part_of_a_finish = refl
 none_of_another_channel : part_of (Finish 3000000 1 7) Done 2 ≡ Untouched
 none_of_another_channel = refl
 
-a_fourth_channel_is_opened : live_mask_after (Open 5000000) (Opened 4) 0b0101 ≡ 0b1101
+a_fourth_channel_is_opened : live_mask_after (Open usual) (Opened 4) 0b0101 ≡ 0b1101
 a_fourth_channel_is_opened = refl
 
 the_third_is_removed : live_mask_after (Remove 0 3) Done 0b0101 ≡ 0b0001

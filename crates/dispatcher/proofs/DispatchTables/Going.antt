@@ -50,16 +50,16 @@ next_number n k r =
 there_or_part : (es : List Effect) (c : ℕ) (call : Call) (answer : Reply) → answer ≡ reply_to es call
     → c ≤ opened_after call answer (opened (past_of es))
     → (c ≤ opened (past_of es)) ⊎ (part_of call answer c ≡ Untouched → ⊥)
-there_or_part es c (Open limit) (Opened k) r le =
+there_or_part es c (Open terms) (Opened k) r le =
     let next : k ≡ suc (opened (past_of es)) = next_number (opened (past_of es)) k r in
     elim (cases_eq c k) [
-      | inl e ↦ inr (λ u. let none : Opens limit ≡ Untouched = sym (ap (λ b. cond b (Opens limit) Untouched) (eq-eqb c k e)) ∙ u in absurd (cc none))
+      | inl e ↦ inr (λ u. let none : Opens terms ≡ Untouched = sym (ap (λ b. cond b (Opens terms) Untouched) (eq-eqb c k e)) ∙ u in absurd (cc none))
       | inr ne ↦ inl (below (opened (past_of es)) k next ne le)
     ]
   where
     below : (n k : ℕ) → k ≡ suc n → c ≢ k → c ≤ suc n → c ≤ n
     below n k e ne le = omega (arith, e, ne, le)
-there_or_part es c (Open limit) _ r le = inl le
+there_or_part es c (Open terms) _ r le = inl le
 there_or_part es c _ answer r le = inl le
 
 -- whose late messages matter
@@ -67,7 +67,7 @@ same_late : (call : Call) (answer : Reply) (f g : ℕ → Bool) (mask : ℕ)
     → ((now k seq : ℕ) → call ≡ Finish now k seq → answer ≡ Done → f k ≡ g k)
     → able_mask_after call answer f mask ≡ able_mask_after call answer g mask
 same_late (Finish now k seq) Done f g mask same = ap (λ b. cond b mask (mask_with mask k)) (same now k seq refl refl)
-same_late (Open limit) (Opened k) f g mask same = refl
+same_late (Open terms) (Opened k) f g mask same = refl
 same_late (Remove now k) Done f g mask same = refl
 same_late (Tick now) (Named other) f g mask same = refl
 same_late call answer f g mask same = refl

@@ -62,7 +62,7 @@ none_after_clock ds es c gone spare now l le =
 
 part_after : (now : ℕ) (p : Part) (s : ChannelState) → NoneAfter now s.unfinished
     → NoneAfter now (with_part p s).unfinished
-part_after now (Opens limit) s h = h
+part_after now (Opens terms) s h = h
 part_after now Receives s h = h
 part_after now (Finishes seq) s h = none_after-without now seq s.unfinished h
 part_after now Untouched s h = h
@@ -88,7 +88,7 @@ other_messages s gone spare messages h le =
 -- a channel after its part
 part_channel : (ds : List ℕ) (es : List Effect) (c : ℕ) (p : Part) → Lawful ds es → CanBe es c p
     → IsChannel (channel_at es c 0 0) → IsChannel (with_part p (channel_at es c 0 0))
-part_channel ds es c (Opens limit) l can h =
+part_channel ds es c (Opens terms) l can h =
     record {
       received_published = h.received_published;
       published_sent = h.published_sent;

@@ -42,7 +42,7 @@ leaves (Pump now) Idle e =
     record { opened = λ n. refl; silent = λ c. refl; part = λ c. refl; live = λ m. refl; able = λ f m. refl; noted = λ n k. refl }
 leaves (Remove now channel) Gone e =
     record { opened = λ n. refl; silent = λ c. refl; part = λ c. refl; live = λ m. refl; able = λ f m. refl; noted = λ n k. refl }
-leaves (Open limit) Full e =
+leaves (Open terms) Full e =
     record { opened = λ n. refl; silent = λ c. refl; part = λ c. refl; live = λ m. refl; able = λ f m. refl; noted = λ n k. refl }
 leaves call answer e = absurd (true≢false (sym e))
 

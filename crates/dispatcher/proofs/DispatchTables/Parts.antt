@@ -9,16 +9,17 @@ use Rattle.dispatch_calls.specs.declared.call.Call.{Call}
 use Rattle.dispatch_calls.specs.declared.call.Call.TheVariants.{Open, Receive, Finish}
 use Rattle.dispatch_calls.specs.declared.reply.Reply.{Reply}
 use Rattle.dispatch_calls.specs.declared.reply.Reply.TheVariants.{Opened, Done, Got, Gone, Empty, UnknownSeq}
-use Rattle.dispatch_history.specs.History.{live, limit_after, received, received_after, finished_after}
+use Rattle.dispatch_history.specs.History.{live, terms_after, received, received_after, finished_after}
 use Rattle.dispatch_history.specs.Effect.{Effect, past_of}
 use Rattle.dispatch_history.specs.Delivery.{published, is_finished}
 use Rattle.dispatch_history.specs.Reply.{reply_to, receive_reply, finish_reply, got_reply}
 use Rattle.dispatcher.specs.DispatchTables.Channel.{Part, Opens, Receives, Finishes, Untouched, part_of, with_part}
+use Rattle.dispatch_calls.specs.declared.terms.Terms.{Terms}
 
--- the limit, the count of received messages and the finished numbers after a part
-abbrev pub limit_by : Part → ℕ → ℕ
-limit_by (Opens limit) before = limit
-limit_by part before = before
+-- the terms, the count of received messages and the finished numbers after a part
+abbrev pub terms_by : Part → Terms → Terms
+terms_by (Opens terms) before = terms
+terms_by part before = before
 
 abbrev pub received_by : Part → ℕ → ℕ
 received_by Receives before = suc before
@@ -36,30 +37,30 @@ abbrev pub unfinished_by : Part → List Unfinished → List Unfinished
 unfinished_by (Finishes seq) before = without seq before
 unfinished_by part before = before
 
-pub limit_part : (call : Call) (answer : Reply) (c n : ℕ)
-    → limit_after call answer c n ≡ limit_by (part_of call answer c) n
-limit_part (Open limit) (Opened k) c n = here (c == k)
+pub terms_part : (call : Call) (answer : Reply) (c : ℕ) (n : Terms)
+    → terms_after call answer c n ≡ terms_by (part_of call answer c) n
+terms_part (Open terms) (Opened k) c n = here (c == k)
   where
-    here : (b : Bool) → cond b limit n ≡ limit_by (cond b (Opens limit) Untouched) n
+    here : (b : Bool) → cond b terms n ≡ terms_by (cond b (Opens terms) Untouched) n
     here true = refl
     here false = refl
-limit_part (Receive k) (Got m) c n = here (c == k)
+terms_part (Receive k) (Got m) c n = here (c == k)
   where
-    here : (b : Bool) → n ≡ limit_by (cond b Receives Untouched) n
+    here : (b : Bool) → n ≡ terms_by (cond b Receives Untouched) n
     here true = refl
     here false = refl
-limit_part (Finish now k seq) Done c n = here (c == k)
+terms_part (Finish now k seq) Done c n = here (c == k)
   where
-    here : (b : Bool) → n ≡ limit_by (cond b (Finishes seq) Untouched) n
+    here : (b : Bool) → n ≡ terms_by (cond b (Finishes seq) Untouched) n
     here true = refl
     here false = refl
-limit_part call answer c n = refl
+terms_part call answer c n = refl
 
 pub received_part : (call : Call) (answer : Reply) (c n : ℕ)
     → received_after call answer c n ≡ received_by (part_of call answer c) n
-received_part (Open limit) (Opened k) c n = here (c == k)
+received_part (Open terms) (Opened k) c n = here (c == k)
   where
-    here : (b : Bool) → n ≡ received_by (cond b (Opens limit) Untouched) n
+    here : (b : Bool) → n ≡ received_by (cond b (Opens terms) Untouched) n
     here true = refl
     here false = refl
 received_part (Receive k) (Got m) c n = here (c == k)
@@ -76,9 +77,9 @@ received_part call answer c n = refl
 
 pub finished_part : (call : Call) (answer : Reply) (c : ℕ) (ns : List ℕ)
     → finished_after call answer c ns ≡ finished_by (part_of call answer c) ns
-finished_part (Open limit) (Opened k) c ns = here (c == k)
+finished_part (Open terms) (Opened k) c ns = here (c == k)
   where
-    here : (b : Bool) → ns ≡ finished_by (cond b (Opens limit) Untouched) ns
+    here : (b : Bool) → ns ≡ finished_by (cond b (Opens terms) Untouched) ns
     here true = refl
     here false = refl
 finished_part (Receive k) (Got m) c ns = here (c == k)
@@ -95,7 +96,7 @@ finished_part call answer c ns = refl
 
 pub count_part : (p : Part) (ns : List ℕ) → length (finished_by p ns) ≡ count_by p (length ns)
 count_part (Finishes seq) ns = omega arith
-count_part (Opens limit) ns = refl
+count_part (Opens terms) ns = refl
 count_part Receives ns = refl
 count_part Untouched ns = refl
 
@@ -103,7 +104,7 @@ count_part Untouched ns = refl
 abbrev pub by_part : Part → ChannelState → ChannelState
 by_part p s =
     record {
-      limit = limit_by p s.limit;
+      terms = terms_by p s.terms;
       gone = s.gone;
       messages = s.messages;
       published = s.published;
@@ -114,14 +115,14 @@ by_part p s =
     }
 
 pub part_fields : (p : Part) (s : ChannelState) → with_part p s ≡ by_part p s
-part_fields (Opens limit) s = refl
+part_fields (Opens terms) s = refl
 part_fields Receives s = let same : s.received + 1 ≡ suc s.received = omega arith in λ i. record s { received = same i }
 part_fields (Finishes seq) s = refl
 part_fields Untouched s = refl
 
 -- a part that can be: what is received is published, and what is finished is received and not finished
 abbrev pub CanBe : List Effect → ℕ → Part → Type 0
-CanBe es c (Opens limit) = Unit {0}
+CanBe es c (Opens terms) = Unit {0}
 CanBe es c Receives = received (past_of es) c < published es c
 CanBe es c (Finishes seq) = (1 ≤ seq) × (seq ≤ received (past_of es) c) × (is_finished (past_of es) c seq ≡ false)
 CanBe es c Untouched = Unit {0}
@@ -151,9 +152,9 @@ can_finish es k seq e =
 
 pub can_be : (es : List Effect) (c : ℕ) (call : Call) (answer : Reply) → answer ≡ reply_to es call
     → CanBe es c (part_of call answer c)
-can_be es c (Open limit) (Opened k) r = here (c == k)
+can_be es c (Open terms) (Opened k) r = here (c == k)
   where
-    here : (b : Bool) → CanBe es c (cond b (Opens limit) Untouched)
+    here : (b : Bool) → CanBe es c (cond b (Opens terms) Untouched)
     here true = tt
     here false = tt
 can_be es c (Receive k) (Got m) r =

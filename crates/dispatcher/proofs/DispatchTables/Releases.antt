@@ -30,7 +30,7 @@ or_none false e = e
 -- a channel that is live after a step and was not before it is opened by it
 fresh_live : (es : List Effect) (call : Call) (answer : Reply) (c : ℕ) → answer ≡ reply_to es call
     → live_after call answer c false ≡ true → opened (past_of es) < c
-fresh_live es (Open limit) (Opened k) c r e =
+fresh_live es (Open terms) (Opened k) c r e =
     let same : c ≡ k = eqb-true c k (or_none (c == k) e) in
     let next : k ≡ opened (past_of es) + 1 = number_is (nat_lt (opened (past_of es)) 64) (opened (past_of es)) k r in
     omega arith

@@ -108,5 +108,5 @@ silent_calls ds (Tick now) (Named mask) es c e =
 silent_calls ds (Pilfer now channel device) Done es c e = absurd (true≢false (sym e))
 silent_calls ds (Pilfer now channel device) answer es c e = rested ds (Pilfer now channel device) answer es c refl refl refl refl
 silent_calls ds (Remove now channel) Gone es c e = rested ds (Remove now channel) Gone es c refl refl refl refl
-silent_calls ds (Open limit) Full es c e = rested ds (Open limit) Full es c refl refl refl refl
+silent_calls ds (Open terms) Full es c e = rested ds (Open terms) Full es c refl refl refl refl
 silent_calls ds call answer es c e = absurd (true≢false (sym e))

@@ -10,13 +10,13 @@ use Rattle.input_types.specs.declared.message.Body.{Body}
 use Rattle.input_types.specs.declared.message.Message.{Message}
 use Rattle.dispatcher.specs.InputChannel.Order.{delivered}
 use Rattle.dispatcher.specs.InputChannel.State.{ChannelState, published_at}
-use Rattle.dispatch_history.specs.History.{clock, limit_of, received, finished}
+use Rattle.dispatch_history.specs.History.{clock, terms_of, received, finished}
 use Rattle.dispatch_history.specs.Effect.{Effect, past_of, stream, sent_on}
 use Rattle.dispatch_history.specs.Delivery.{published, delivery, is_finished}
 use Rattle.dispatcher.specs.DispatchTables.Channel.{Part, Opens, Receives, Finishes, Untouched, with_part, channel_at, enqueued_all, NumberedFrom}
 use Rattle.dispatcher.proofs.DispatchTables.Numbering.{messages_from, length-messages, length-sent_on, reverse_sent, enqueued_is}
 use Rattle.dispatcher.proofs.DispatchTables.Waiting.{waiting, waiting-more, waiting-without}
-use Rattle.dispatcher.proofs.DispatchTables.Parts.{limit_by, received_by, finished_by, count_by, unfinished_by, by_part, part_fields, count_part, CanBe}
+use Rattle.dispatcher.proofs.DispatchTables.Parts.{terms_by, received_by, finished_by, count_by, unfinished_by, by_part, part_fields, count_part, CanBe}
 
 -- what holds of each channel after a legal history
 pub record Sound (es : List Effect) (c : ℕ) : Type 0 where
@@ -29,7 +29,7 @@ published-grows a b n m k le less = omega arith
 
 more_finished : (p : Part) (ns : List ℕ) → length ns ≤ length (finished_by p ns)
 more_finished (Finishes seq) ns = omega arith
-more_finished (Opens limit) ns = omega arith
+more_finished (Opens terms) ns = omega arith
 more_finished Receives ns = omega arith
 more_finished Untouched ns = omega arith
 
@@ -42,7 +42,7 @@ done_by es c (Finishes seq) h can k d =
       | inl e ↦ let same : seq ≡ k = eqb-true seq k e in (omega (arith, same, can.0), omega (arith, same, can.1))
       | inr e ↦ h.done_received k e
     ]
-done_by es c (Opens limit) h can k d = h.done_received k d
+done_by es c (Opens terms) h can k d = h.done_received k d
 done_by es c Receives h can k d = h.done_received k d
 done_by es c Untouched h can k d = h.done_received k d
 
@@ -51,7 +51,7 @@ waiting-part : (p : Part) (ns : List ℕ) (at : ℕ → ℕ) (ms : List Message)
     → waiting (λ k. list_any (λ n. n == k) (finished_by p ns)) at ms
     ≡ unfinished_by p (waiting (λ k. list_any (λ n. n == k) ns) at ms)
 waiting-part (Finishes seq) ns at ms = waiting-without (λ k. list_any (λ n. n == k) ns) at seq ms
-waiting-part (Opens limit) ns at ms = refl
+waiting-part (Opens terms) ns at ms = refl
 waiting-part Receives ns at ms = refl
 waiting-part Untouched ns at ms = refl
 
@@ -59,7 +59,7 @@ waiting-part Untouched ns at ms = refl
 pub record Stepped (es later : List Effect) (c : ℕ) (p : Part) (outgoing : List Body) : Type 0 where
   pub sound : Sound es c
   pub can : CanBe es c p
-  pub limit_is : limit_of (past_of later) c ≡ limit_by p (limit_of (past_of es) c)
+  pub terms_is : terms_of (past_of later) c ≡ terms_by p (terms_of (past_of es) c)
   pub received_is : received (past_of later) c ≡ received_by p (received (past_of es) c)
   pub finished_is : finished (past_of later) c ≡ finished_by p (finished (past_of es) c)
   pub stream_is : stream later c ≡ sent_on (clock (past_of later)) outgoing (stream es c)
@@ -80,13 +80,13 @@ stepped_published es later c p outgoing h =
 received_few : (es : List Effect) (c : ℕ) (p : Part) → Sound es c → CanBe es c p
     → received_by p (received (past_of es) c) ≤ published es c
 received_few es c Receives h can = can
-received_few es c (Opens limit) h can = h.received_published
+received_few es c (Opens terms) h can = h.received_published
 received_few es c (Finishes seq) h can = h.received_published
 received_few es c Untouched h can = h.received_published
 
 pub received_more : (p : Part) (n : ℕ) → n ≤ received_by p n
 received_more Receives n = omega arith
-received_more (Opens limit) n = omega arith
+received_more (Opens terms) n = omega arith
 received_more (Finishes seq) n = omega arith
 received_more Untouched n = omega arith
 
@@ -157,7 +157,7 @@ pub stepped_channel : (es later : List Effect) (c : ℕ) (p : Part) (outgoing : 
     ≡ published_at (clock (past_of later)) (enqueued_all outgoing (clock (past_of later)) (with_part p (channel_at es c gone spare)))
 stepped_channel es later c p outgoing gone spare h le =
     (λ i. record {
-      limit = h.limit_is i;
+      terms = h.terms_is i;
       gone = gone;
       messages = messages i;
       published = far i;

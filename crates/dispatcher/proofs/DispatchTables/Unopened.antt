@@ -19,6 +19,7 @@ use Rattle.dispatcher.specs.DispatchTables.Channel.{Opens, Receives, Finishes, U
 use Rattle.dispatcher.specs.DispatchTables.Laws.{NotLiveLaw}
 use Rattle.dispatcher.proofs.DispatchTables.Lawfuls.{lawful_last, lawful_always}
 use Rattle.dispatcher.proofs.DispatchTables.Kept.{quiet_law}
+use Rattle.dispatch_history.specs.History.{no_terms}
 
 pub got_live : (a b : Bool) (o : Option Message) (m : Message) → Got m ≡ cond (not a) Gone (cond b (got_reply o) Empty)
     → a ≡ true
@@ -32,10 +33,10 @@ done_live false b e = absurd (cc e)
 -- a channel that a step concerns is live after it
 pub part_live : (es : List Effect) (c : ℕ) (call : Call) (answer : Reply) → answer ≡ reply_to es call
     → (part_of call answer c ≡ Untouched) ⊎ (live ((call, answer) ∷ past_of es) c ≡ true)
-part_live es c (Open limit) (Opened k) r =
+part_live es c (Open terms) (Opened k) r =
     elim (cases_Bool (c == k)) [
       | inl e ↦ inr (ap (λ b. b || live (past_of es) c) e)
-      | inr e ↦ inl (ap (λ b. cond b (Opens limit) Untouched) e)
+      | inr e ↦ inl (ap (λ b. cond b (Opens terms) Untouched) e)
     ]
 part_live es c (Receive k) (Got m) r =
     elim (cases_eq c k) [
@@ -70,9 +71,9 @@ unopened_not_live ds es c l lt =
     ]
 
 pub unopened_law : (ds : List ℕ) (es : List Effect) (c : ℕ) → Lawful ds es → opened (past_of es) < c
-    → channel_at es c 0 0 ≡ opened_with 0
+    → channel_at es c 0 0 ≡ opened_with no_terms
 unopened_law ds es c l lt =
-    lawful_always ds (λ xs. opened (past_of xs) < c → channel_at xs c 0 0 ≡ opened_with 0) (λ x. refl)
+    lawful_always ds (λ xs. opened (past_of xs) < c → channel_at xs c 0 0 ≡ opened_with no_terms) (λ x. refl)
     (λ call answer xs m h x.
     let none = not_live_law ds call answer xs c m (unopened_not_live ds (step ds call answer xs) c m x) in
     quiet_law ds call answer xs c 0 0 m (omega arith) none.0 none.1

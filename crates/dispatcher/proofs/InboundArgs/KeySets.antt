@@ -1,9 +1,9 @@
 -- What a write into the sets of scan codes does to the keys that are down.
-use Rattle.std.proofs.Common.{◌≡◌, ◌≢◌, ◌<◌, ◌+◌, ◌*◌, ◌/◌, ◌%◌, ℕ, zero, suc, nat_eq, Bool, false, cond, List, length, get_or, set, replicate, refl, sym, ap, ◌∙◌, eq-eqb, ⊎_elim}
+use Rattle.std.proofs.Common.{◌≡◌, ◌≢◌, ◌<◌, ◌≤◌, ◌+◌, ◌*◌, ◌/◌, ◌%◌, ℕ, zero, suc, nat_eq, Bool, false, cond, List, length, get_or, set, replicate, refl, sym, ap, ◌∙◌, eq-eqb, ⊎_elim, arith}
 use Rattle.std.proofs.lemmas.Bool.{cases_eq, ne_eqb}
 use Rattle.std.proofs.lemmas.List.{get_or-set_same, get_or-set_other}
 use Rattle.std.proofs.lemmas.Nat.Bits.{bit_at-zero}
-use Rattle.std.proofs.Math.Nat.{div-add-mod}
+use Rattle.std.proofs.Math.Nat.{div-add-mod, div-mul-le_self, div-eq_of_lt-le}
 use Rattle.bits32.specs.Set.{is_in}
 use Rattle.input_types.specs.DeviceRule.{with_key}
 use Rattle.dispatcher.specs.InboundArgs.Keys.{has_key}
@@ -46,3 +46,11 @@ none_there (suc n) (suc place) = none_there n place
 -- no key is down where all sets are empty
 pub none_down : (n scan : ℕ) → has_key (replicate n 0) scan ≡ false
 none_down n scan = rw (none_there n (scan / 32), bit_at-zero (scan % 32)) refl
+
+-- none of the codes of an empty set is down, up to the next set
+pub none_of_set : (sets : List ℕ) (code s : ℕ) → get_or sets (code / 32) 0 ≡ 0 → code ≤ s → s < (code / 32 + 1) * 32 → has_key sets s ≡ false
+none_of_set sets code s empty from to =
+    let start = div-mul-le_self code 32 in
+    let low : code / 32 * 32 ≤ s = omega (arith, start, from) in
+    let same : s / 32 ≡ code / 32 = div-eq_of_lt-le 32 low to in
+    rw (same, empty, bit_at-zero (s % 32)) refl

@@ -4,6 +4,7 @@ use Rattle.std.proofs.Common.{refl}
 use Rattle.input_types.specs.declared.message.Body.TheVariants.{Motion as MotionBody, Focus}
 use Rattle.dispatcher.specs.InputChannel.Moves.{move_of, moves_from}
 use Rattle.dispatcher.specs.InputChannel.State.{ChannelState, opened_with, sent, enqueued, published_at, next_of, received_next, passed, may_finish, finished_with, release_of, each_released, all_released, oldest_of, has_late}
+use Rattle.dispatch_history.proofs.Worked.{usual}
 
 -- Two messages with the clock at 0 and at 1000000, both received
 abbrev pub outgoing : ChannelState
@@ -11,13 +12,13 @@ outgoing =
     received_next
     (published_at 1000000
     (enqueued (Focus false) 1000000
-    (received_next (published_at 0 (enqueued (Focus true) 0 (opened_with 5000000))))))
+    (received_next (published_at 0 (enqueued (Focus true) 0 (opened_with usual))))))
 
-pub first_message : next_of (published_at 0 (enqueued (Focus true) 7 (opened_with 5000000)))
+pub first_message : next_of (published_at 0 (enqueued (Focus true) 7 (opened_with usual)))
     ≡ Some (record { seq = 1; moment = 7; body = Focus true })
 first_message = refl
 
-pub nothing_is_published : next_of (enqueued (Focus true) 7 (opened_with 5000000)) ≡ None
+pub nothing_is_published : next_of (enqueued (Focus true) 7 (opened_with usual)) ≡ None
 nothing_is_published = refl
 
 pub all_is_received : next_of outgoing ≡ None
@@ -65,7 +66,7 @@ delivery_is_kept = refl
 
 -- of the second message, which was not received, nothing is kept once all are released, and it is handed out no more
 abbrev pub untaken : ChannelState
-untaken = enqueued (Focus false) 9 (received_next (published_at 0 (enqueued (Focus true) 0 (opened_with 5000000))))
+untaken = enqueued (Focus false) 9 (received_next (published_at 0 (enqueued (Focus true) 0 (opened_with usual))))
 
 pub all_gone : (all_released untaken).messages ≡ []
 all_gone = refl
@@ -97,7 +98,7 @@ gone_stays = refl
 abbrev pub many : ChannelState
 many =
     published_at 0
-    (record (opened_with 5000000) { messages = replicate 65 (record { seq = 1; moment = 0; body = Focus true }) })
+    (record (opened_with usual) { messages = replicate 65 (record { seq = 1; moment = 0; body = Focus true }) })
 
 pub at_most_64 : many.published ≡ 64
 at_most_64 = refl

@@ -93,7 +93,7 @@ no_request (FocusOn now display channel) e = absurd (true≢false (sym e))
 no_request _ e = refl
 
 same_may : (call : Call) (answer : Reply) (h : History) (y c : ℕ) → leaves_focus call ≡ true → may_focus ((call, answer) ∷ h) y c ≡ may_focus h y c
-same_may (Open limit) answer h y c e = absurd (true≢false (sym e))
+same_may (Open terms) answer h y c e = absurd (true≢false (sym e))
 same_may (Windows now shown) answer h y c e = absurd (true≢false (sym e))
 same_may (FocusOn now display channel) answer h y c e = absurd (true≢false (sym e))
 same_may (Remove now channel) answer h y c e = absurd (true≢false (sym e))

@@ -66,7 +66,7 @@ only_target ds ((call, answer) ∷ h) w n =
         let p = and_parts (live (past_of es) w) (not (unresponsive es w)) a in
         let later : able (x ∷ es) w ≡ (live (past_of es) w && true) = (able_step x es w).0 (not-true (unresponsive es w) p.1) in
         absurd (true≢false (sym (ap₂ (λ b c. b && c) t (later ∙ ap (λ b. b && true) p.0)) ∙ q))
-    by_call (Open limit) t a q = left (Open limit) t a q
+    by_call (Open terms) t a q = left (Open terms) t a q
     by_call (Windows now shown) t a q = left (Windows now shown) t a q
     by_call (FocusOn now y c) t a q = left (FocusOn now y c) t a q
     by_call (Notify now b) t a q = left (Notify now b) t a q

@@ -7,14 +7,14 @@ use Rattle.input_types.specs.declared.key.KeyMsg.{KeyMsg}
 use Rattle.input_types.specs.declared.message.Args.{Args}
 use Rattle.input_types.specs.declared.message.Args.TheVariants.{Motion as MotionArgs, Key as KeyOfDevice, Reset}
 use Rattle.window_snapshot.specs.Mask.{mask_has}
-use Rattle.key_repeat.specs.Due.{Sent, due_of, repeated, next_of}
+use Rattle.key_repeat.specs.Due.{Sent, due_by, repeated, next_of}
 use Rattle.dispatcher.specs.CancelSynthesis.Ends.{keys_cancelled}
 use Rattle.focus_resolver.specs.Resolver.{is_at}
 use Rattle.dispatch_calls.specs.declared.call.Call.{Call}
 use Rattle.dispatch_calls.specs.declared.call.Call.TheVariants.{Open, Windows, FocusOn, Notify, Pump, Tick, Receive, Finish, Pilfer, Remove}
 use Rattle.dispatch_calls.specs.declared.reply.Reply.{Reply}
 use Rattle.dispatch_calls.specs.declared.reply.Reply.TheVariants.{Dispatched, Repeated, Idle}
-use Rattle.dispatch_history.specs.History.{clock, live}
+use Rattle.dispatch_history.specs.History.{clock, live, repeats_of}
 use Rattle.dispatch_history.specs.Queue.{inbound, args_of}
 use Rattle.dispatch_history.specs.Effect.{Effect, past_of}
 use Rattle.dispatch_history.specs.Focus.{is_target, key_target}
@@ -93,7 +93,7 @@ keys_quiet ds call answer es w l n = by_call call (lawful_last ds call answer es
               (holder_is_target ds es m.key.key m.channel p.1 (due_held ds es (max now (clock (past_of es))) m p.1 y e).0)))
           | inr f ↦ f
         ]))
-    by_call (Open limit) p = still (Open limit) p.1
+    by_call (Open terms) p = still (Open terms) p.1
     by_call (Windows now shown) p = still (Windows now shown) p.1
     by_call (FocusOn now y c) p = still (FocusOn now y c) p.1
     by_call (Notify now a) p = still (Notify now a) p.1
@@ -158,7 +158,7 @@ pump_sent now w answer [] hears stays held last kept due at r f = by_due (cases_
         (sym (r ∙ ap (λ b. cond b Repeated Idle) n)) (idle [])
 
 pub repeat_read : RepeatRead
-repeat_read ds es last l r = (ap due_of r, λ s e. by_last (last_key es) refl s (sym r ∙ e))
+repeat_read ds es last l r = (ap (due_by (repeats_of (past_of es))) r, λ s e. by_last (last_key es) refl s (sym r ∙ e))
   where
     by_last : (o : Option Sent) → last_key es ≡ o → (s : Sent) → while_held es o ≡ Some s → is_target (past_of es) s.channel ≡ true
     by_last None q s e = absurd (cc e)
@@ -179,7 +179,7 @@ repeat_is_next : (ds : List ℕ) (es : List Effect) (now w at : ℕ) (last : Opt
 repeat_is_next ds es now w at last l t r y = by_last (last_key es) refl
   where
     by_last : (o : Option Sent) → last_key es ≡ o → repeat_sent (Pump now) Repeated o w ≡ one_sent (option_map (λ n. n.1) (next_of last))
-    by_last None q = absurd (true≢false (sym (ap (λ o. is_due (due_of (while_held es o)) at) (sym q) ∙ y)))
+    by_last None q = absurd (true≢false (sym (ap (λ o. is_due (due_by (repeats_of (past_of es)) (while_held es o)) at) (sym q) ∙ y)))
     by_last (Some m) q =
         let x = due_held ds es at m l y q in
         let kept : last ≡ Some m = r ∙ ap (while_held es) q ∙ ap (λ b. cond b (Some m) None) x.0 in
@@ -241,7 +241,7 @@ target_sent_law ds call answer es w held last l t n k r = by_call call n (lawful
         (sym p.0)
         (lost (is_target (past_of es) w && not (is_target (past_of es) w) || mask_has mask w || not (live (past_of es) w)) (mask_has mask w)
         (named_only (is_target (past_of es) w) (mask_has mask w) (live (past_of es) w) m))
-    by_call (Open limit) m p = moved (Open limit) refl m
+    by_call (Open terms) m p = moved (Open terms) refl m
     by_call (Windows now shown) m p = moved (Windows now shown) refl m
     by_call (FocusOn now y c) m p = moved (FocusOn now y c) refl m
     by_call (Notify now a) m p = moved (Notify now a) refl m

@@ -9,13 +9,13 @@ use Rattle.input_types.specs.declared.message.Body.{Body}
 use Rattle.input_types.specs.declared.message.Body.TheVariants.{Motion as MotionBody, Key as KeyBody, Focus as FocusBody}
 use Rattle.input_types.specs.declared.message.Message.{Message}
 use Rattle.input_types.specs.declared.motion.Motion.{Motion}
-use Rattle.key_repeat.specs.Due.{Sent, delay_after, due_of, is_repeated}
+use Rattle.key_repeat.specs.Due.{Sent, delay_after, due_after, due_by, is_repeated}
 use Rattle.dispatcher.specs.CancelSynthesis.Tracked.{keys_after}
 use Rattle.dispatcher.specs.CancelSynthesis.Laws.{keys_sent as tracked}
 use Rattle.dispatch_calls.specs.declared.call.Call.{Call}
 use Rattle.dispatch_calls.specs.declared.call.Call.TheVariants.{Open, Windows, FocusOn, Notify, Pump, Tick, Receive, Finish, Pilfer, Remove}
 use Rattle.dispatch_calls.specs.declared.reply.Reply.{Reply}
-use Rattle.dispatch_history.specs.History.{History, clock, live}
+use Rattle.dispatch_history.specs.History.{History, clock, live, repeats_of}
 use Rattle.dispatch_history.specs.Queue.{inbound, args_of}
 use Rattle.dispatch_history.specs.Effect.{Effect, past_of, stream}
 use Rattle.dispatch_history.specs.Effects.{effects, step}
@@ -36,6 +36,7 @@ use Rattle.dispatcher.specs.KeyTables.Laws.{BodiesTracked}
 use Rattle.dispatcher.proofs.KeyTables.Holders.{keys_of_target}
 use Rattle.dispatcher.proofs.KeyTables.Rising.{NewKey, next_keys, new_key, rising}
 use Rattle.dispatcher.proofs.KeyTables.KeysLeft.{keys_in, leaves_alone, RepeatHeld, leaves_pump}
+use Rattle.key_repeat.specs.declared.delays.Repeats.{Repeats}
 
 -- the newest key message is the last one of its key
 newest_last : (d s : ℕ) (m : KeyMsg) (ms : List Message) → newest_key ms ≡ Some m → is_key d s m.key ≡ true → last_message d s ms ≡ Some m
@@ -82,15 +83,22 @@ kept_held ds es m l e any =
 pub due_held : (ds : List ℕ) (es : List Effect) (at : ℕ) (m : Sent) → Lawful ds es → is_due (repeat_due es) at ≡ true → last_key es ≡ Some m
     → (list_any (same_key m.key.key) (keys es m.channel) ≡ true) × (is_repeated m.key ≡ true)
 due_held ds es at m l y e =
-    by_any (list_any (same_key m.key.key) (keys es m.channel)) (is_repeated m.key) (ap (λ o. is_due (due_of (while_held es o)) at) (sym e) ∙ y)
+    by_any (list_any (same_key m.key.key) (keys es m.channel)) (ap (λ o. is_due (due_by delays (while_held es o)) at) (sym e) ∙ y)
   where
-    by_any : (b c : Bool) → is_due (due_of (cond b (Some m) None)) at ≡ true → (b ≡ true) × (is_repeated m.key ≡ true)
-    by_any true c q = (refl, by_repeat (is_repeated m.key) (m.clock + delay_after m.key.repeat) q)
-      where
-        by_repeat : (d : Bool) (n : ℕ) → is_due (cond d (Some n) None) at ≡ true → d ≡ true
-        by_repeat true n q = refl
-        by_repeat false n q = absurd (true≢false (sym q))
-    by_any false c q = absurd (true≢false (sym q))
+    delays : ℕ → Option Repeats
+    delays = repeats_of (past_of es)
+
+    by_repeat : (d : Bool) (n : ℕ) → is_due (cond d (Some n) None) at ≡ true → d ≡ true
+    by_repeat true n q = refl
+    by_repeat false n q = absurd (true≢false (sym q))
+
+    by_delays : (o : Option Repeats) → is_due (due_after o m) at ≡ true → is_repeated m.key ≡ true
+    by_delays None q = absurd (true≢false (sym q))
+    by_delays (Some r) q = by_repeat (is_repeated m.key) (m.clock + delay_after r m.key.repeat) q
+
+    by_any : (b : Bool) → is_due (due_by delays (cond b (Some m) None)) at ≡ true → (b ≡ true) × (is_repeated m.key ≡ true)
+    by_any true q = (refl, by_delays (delays m.channel) q)
+    by_any false q = absurd (true≢false (sym q))
 
 repeat_held : (ds : List ℕ) (es : List Effect) (w at : ℕ) → Lawful ds es → is_due (repeat_due es) at ≡ true → RepeatHeld (keys es w) (last_key es) w
 repeat_held ds es w at l y m e c =
@@ -133,7 +141,7 @@ keys_next ds call answer h w held l n are = by_call call l n
         subst₂ (λ b ks. Ends (is_target (past_of es) w && able es w) held o b r ks) (sym (pump_stays (is_target (past_of es) w) (live (past_of es) w) q)) are
         (leaves_pump now w answer (inbound (past_of es)) (is_target (past_of es) w && able es w) held (last_key es) (repeat_due es) (max now (clock (past_of es))) m.0 new up
         (λ y. subst (λ ks. RepeatHeld ks (last_key es) w) (sym are) (repeat_held ds es w (max now (clock (past_of es))) old y)))
-    by_call (Open limit) m q = quiet (Open limit)
+    by_call (Open terms) m q = quiet (Open terms)
     by_call (Windows now shown) m q = quiet (Windows now shown)
     by_call (FocusOn now y c) m q = quiet (FocusOn now y c)
     by_call (Notify now a) m q = quiet (Notify now a)

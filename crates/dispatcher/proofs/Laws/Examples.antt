@@ -1,5 +1,5 @@
 -- Worked examples: window 1 has the focus, and volume up of device 1 went down in it at 1,000,000. Channel 2 was removed.
-use Rattle.std.proofs.Common.{◌≡◌, ℕ, Bool, true, false, ◌==◌, List, [], ◌∷◌, replicate, Option, Some, None, if◌then◌else◌, refl, sym}
+use Rattle.std.proofs.Common.{◌≡◌, ℕ, Bool, true, false, ◌==◌, List, [], ◌∷◌, replicate, Option, Some, None, if◌then◌else◌, refl}
 use Rattle.std.proofs.lemmas.Bool.{true≢false}
 use Rattle.bits32.specs.Set.{members_below}
 use Rattle.input_types.specs.declared.key.KeyArgs.{KeyArgs}
@@ -18,6 +18,7 @@ use Rattle.dispatcher.specs.DispatchChannels.Table.{unsent}
 use Rattle.dispatcher.specs.Answered.{NeedNotWait}
 use Rattle.dispatcher.specs.Queue.{waiting_after}
 use Rattle.dispatcher.specs.Knows.{Kept}
+use Rattle.dispatch_history.proofs.Worked.{usual}
 use Rattle.dispatcher.specs.Replying.{reply_by}
 use Rattle.dispatcher.specs.Sending.{sent_target, repeat_then}
 use Rattle.dispatcher.specs.DispatchTables.Delivery.{none_noted}
@@ -47,7 +48,7 @@ kept count waiting =
       shown = record { windows = []; origins = [] };
       touches = replicate 8 no_table;
       covers = record { obscured = replicate 8 0; partly = replicate 8 0 };
-      delivery = record { count = count; channel = λ c. opened_with 5000000; live = 1; able = 1; noted = none_noted };
+      delivery = record { count = count; channel = λ c. opened_with usual; live = 1; able = 1; noted = none_noted };
       inputs = outgoing;
       focus = record { requested = Some 1 ∷ None ∷ None ∷ None ∷ []; last = 0; focusable = 1 ∷ 0 ∷ 0 ∷ 0 ∷ [] };
       repeat = sent 0 1000000;
@@ -55,10 +56,10 @@ kept count waiting =
 
 -- ---- what is answered
 
-a_channel_is_opened : reply_by (kept 2 []) (Open 5000000) ≡ Opened 3
+a_channel_is_opened : reply_by (kept 2 []) (Open usual) ≡ Opened 3
 a_channel_is_opened = refl
 
-no_more_than_64_are : reply_by (kept 64 []) (Open 5000000) ≡ Full
+no_more_than_64_are : reply_by (kept 64 []) (Open usual) ≡ Full
 no_more_than_64_are = refl
 
 a_repeat_is_not_due_yet : reply_by (kept 2 []) (Pump 1499999) ≡ Idle

@@ -5,6 +5,8 @@ use Rattle.dispatcher.specs.DispatchChannels.Table.{Table, channel_of, with_chan
 use Rattle.dispatcher.specs.DispatchChannels.Changes.{Opens, new_channel, finished_at, finished_in, named_in}
 use Rattle.dispatcher.specs.Tables.{LetsNoneGo}
 use Rattle.dispatcher.proofs.Room.Rooms.{channel_bare}
+use Rattle.dispatch_history.specs.History.{no_terms}
+use Rattle.dispatch_calls.specs.declared.terms.Terms.{Terms}
 
 -- where nothing changes
 pub none_gone : (t : Table) → LetsNoneGo t t
@@ -40,7 +42,7 @@ passed_gone t u k is =
     record {
       of_channels = λ c low.
           ap (λ x. (channel_of x c).gone) is
-          ∙ set_gone t.channels (k - 1) (c - 1) (passed s) (opened_with 0) (passed_keeps (nat_lt s.received s.published) s);
+          ∙ set_gone t.channels (k - 1) (c - 1) (passed s) (opened_with no_terms) (passed_keeps (nat_lt s.received s.published) s);
       of_anrs = ap (λ x. x.anrs.gone) is;
     }
 
@@ -48,22 +50,22 @@ pub finished_gone : (t u : Table) (k seq clock : ℕ) → u ≡ finished_in k se
 finished_gone t u k seq clock is =
     record {
       of_channels = λ c low.
-          ap (λ x. (channel_of x c).gone) is ∙ set_gone t.channels (k - 1) (c - 1) (finished_at seq clock (channel_of t k)) (opened_with 0) refl;
+          ap (λ x. (channel_of x c).gone) is ∙ set_gone t.channels (k - 1) (c - 1) (finished_at seq clock (channel_of t k)) (opened_with no_terms) refl;
       of_anrs = ap (λ x. x.anrs.gone) is;
     }
 
 -- where one is opened
-more_gone : (ss : List ChannelState) (j : ℕ) (s : ChannelState) → s.gone ≡ 0 → (get_or (ss ++ s ∷ []) j (opened_with 0)).gone ≡ (get_or ss j (opened_with 0)).gone
+more_gone : (ss : List ChannelState) (j : ℕ) (s : ChannelState) → s.gone ≡ 0 → (get_or (ss ++ s ∷ []) j (opened_with no_terms)).gone ≡ (get_or ss j (opened_with no_terms)).gone
 more_gone [] zero s h = h
 more_gone [] (suc j) s h = refl
 more_gone (x ∷ xs) zero s h = refl
 more_gone (x ∷ xs) (suc j) s h = more_gone xs j s h
 
-pub opened_gone : (limit number : ℕ) (t u : Table) → Opens limit number t u → LetsNoneGo t u
-opened_gone limit number t u h =
+pub opened_gone : (terms : Terms) (number : ℕ) (t u : Table) → Opens terms number t u → LetsNoneGo t u
+opened_gone terms number t u h =
     record {
       of_channels = λ c low.
-          ap (λ ss. (get_or ss (c - 1) (opened_with 0)).gone) h.channels_are ∙ more_gone t.channels (c - 1) (new_channel limit) refl;
+          ap (λ ss. (get_or ss (c - 1) (opened_with no_terms)).gone) h.channels_are ∙ more_gone t.channels (c - 1) (new_channel terms) refl;
       of_anrs = ap (λ n. n.gone) h.anrs_are;
     }
 

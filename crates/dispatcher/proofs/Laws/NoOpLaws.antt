@@ -83,7 +83,7 @@ no_op_still (Pump now) Idle e =
     record { windows = λ ws. refl; origins = λ w p. refl; live = λ c b. refl; silent = λ c. refl; request = refl; masks = λ h ms is. is }
 no_op_still (Remove now channel) Gone e =
     record { windows = λ ws. refl; origins = λ w p. refl; live = λ c b. refl; silent = λ c. refl; request = refl; masks = λ h ms is. is }
-no_op_still (Open limit) Full e =
+no_op_still (Open terms) Full e =
     record { windows = λ ws. refl; origins = λ w p. refl; live = λ c b. refl; silent = λ c. refl; request = refl; masks = λ h ms is. is }
 no_op_still call answer e = absurd (true≢false (sym e))
 
@@ -100,7 +100,7 @@ no_op_step (Pilfer now channel device) Done ws waiting e = absurd (true≢false 
 no_op_step (Pilfer now channel device) answer ws waiting e = refl
 no_op_step (Pump now) Idle ws waiting e = refl
 no_op_step (Remove now channel) Gone ws waiting e = refl
-no_op_step (Open limit) Full ws waiting e = refl
+no_op_step (Open terms) Full ws waiting e = refl
 no_op_step call answer ws waiting e = absurd (true≢false (sym e))
 
 pub receive_still : (c : ℕ) (answer : Reply) → Still (Receive c) answer

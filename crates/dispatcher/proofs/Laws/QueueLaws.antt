@@ -44,7 +44,7 @@ few_step es (Notify now a) answer r few =
     few_notified (accepted (past_of es)) (dispatches (past_of es)) now a (is_some (after_args s a)) (id_bits s.ids) (is_down s a) answer few r
 few_step es (Pump now) answer r few =
     few_pumped (accepted (past_of es)) (dispatches (past_of es)) now (max now (clock (past_of es))) (repeat_due es) answer (inbound (past_of es)) few refl r
-few_step es (Open limit) answer r few = few
+few_step es (Open terms) answer r few = few
 few_step es (Windows now shown) answer r few = few
 few_step es (FocusOn now display channel) answer r few = few
 few_step es (Tick now) answer r few = few
@@ -91,7 +91,7 @@ waits_step es (Notify now a) answer r few =
     waits_notified (accepted (past_of es)) (dispatches (past_of es)) now a (is_some (after_args s a)) (id_bits s.ids) (is_down s a) answer few r
 waits_step es (Pump now) answer r few =
     waits_pumped (accepted (past_of es)) (dispatches (past_of es)) now (max now (clock (past_of es))) (repeat_due es) answer (inbound (past_of es)) r
-waits_step es (Open limit) answer r few = refl
+waits_step es (Open terms) answer r few = refl
 waits_step es (Windows now shown) answer r few = refl
 waits_step es (FocusOn now display channel) answer r few = refl
 waits_step es (Tick now) answer r few = refl
@@ -115,7 +115,7 @@ down_step es (Notify now a) answer old new r stands goes =
     let s = down_on (past_of es) (device_of a) in
     down_notified (accepted (past_of es)) old new now a (is_some (after_args s a)) (id_bits s.ids) (is_down s a) answer stands r goes
 down_step es (Pump now) answer old new r stands goes = rw goes stands
-down_step es (Open limit) answer old new r stands goes = rw goes stands
+down_step es (Open terms) answer old new r stands goes = rw goes stands
 down_step es (Windows now shown) answer old new r stands goes = rw goes stands
 down_step es (FocusOn now display channel) answer old new r stands goes = rw goes stands
 down_step es (Tick now) answer old new r stands goes = rw goes stands

@@ -19,7 +19,7 @@ use Rattle.dispatcher.proofs.DispatchTables.Going.{delivery_due}
 use Rattle.dispatcher.proofs.DispatchTables.Keeping.{kept_counts, kept_oldest}
 use Rattle.dispatcher.specs.DispatchChannels.Table.{Table, opened, channel_of, due_moment as due_in_table}
 use Rattle.dispatcher.specs.DispatchChannels.Changes.{counts_in}
-use Rattle.dispatcher.proofs.KeyTables.Sending.{repeat_read}
+use Rattle.dispatcher.proofs.Laws.Repeating.{due_again_is}
 use Rattle.dispatcher.specs.Knows.{Kept, KeptStandsFor}
 use Rattle.dispatcher.specs.Staying.{delivery_of}
 use Rattle.dispatcher.specs.ReadLaws.{ReadsChannelsLaw, ReadsMomentsLaw, ReadsTouchesLaw, ReadsInputsLaw}
@@ -55,7 +55,7 @@ reads_channels ds es k t s e =
 
 pub reads_moments : ReadsMomentsLaw
 reads_moments ds es k s =
-    record { clock_is = s.knows.queue.clock_is; repeat_is = (repeat_read ds es k.repeat s.lawful s.knows.keying.repeat_is).0 }
+    record { clock_is = s.knows.queue.clock_is; repeat_is = due_again_is ds es k s }
 
 pub reads_touches : ReadsTouchesLaw
 reads_touches ds es k s =

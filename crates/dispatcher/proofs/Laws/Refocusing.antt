@@ -28,7 +28,7 @@ pub focus_goes : (ds : List ℕ) (call : Call) (answer : Reply) (es : List Effec
     → FocusGoes call ws alive f g → FocusIs (step ds call answer es) g
 focus_goes ds (FocusOn now y c) answer es f g ws alive is shown lives goes =
     subst (FocusIs (step ds (FocusOn now y c) answer es)) (sym goes.1) (focus_requested ds now y c answer es f goes.0 is)
-focus_goes ds (Open limit) answer es f g ws alive is shown lives goes = refocused ds (Open limit) answer es f g ws alive refl is shown lives goes
+focus_goes ds (Open terms) answer es f g ws alive is shown lives goes = refocused ds (Open terms) answer es f g ws alive refl is shown lives goes
 focus_goes ds (Windows now next) answer es f g ws alive is shown lives goes = refocused ds (Windows now next) answer es f g ws alive refl is shown lives goes
 focus_goes ds (Remove now c) answer es f g ws alive is shown lives goes = refocused ds (Remove now c) answer es f g ws alive refl is shown lives goes
 focus_goes ds (Notify now a) answer es f g ws alive is shown lives goes = subst (FocusIs (step ds (Notify now a) answer es)) (sym goes) (focus_left ds (Notify now a) answer es f refl is)

@@ -6,7 +6,6 @@ use Rattle.window_snapshot.specs.Mask.{mask_has}
 use Rattle.window_snapshot.specs.Window.{is_spy}
 use Rattle.dispatcher.proofs.InboundArgs.Accepting.{says_down}
 use Rattle.dispatcher.specs.InputChannel.State.{next_of, may_finish}
-use Rattle.key_repeat.specs.Due.{due_of}
 use Rattle.dispatch_calls.specs.declared.call.Call.TheVariants.{Open, Windows, FocusOn, Notify, Pump, Tick, Receive, Finish, Pilfer, Remove}
 use Rattle.dispatch_calls.specs.declared.reply.Reply.TheVariants.{Done, Named, Gone, UnknownSeq, NotSpy, NothingHeld}
 use Rattle.dispatch_history.specs.History.{clock, live, opened, received, snapshot}
@@ -25,8 +24,8 @@ use Rattle.dispatcher.proofs.DispatchTables.Duties.{named_law}
 use Rattle.dispatcher.proofs.DispatchTables.Going.{delivery_due}
 use Rattle.dispatcher.proofs.DispatchTables.Keeping.{kept_receive, kept_finish}
 use Rattle.route_split.specs.Tables.{any_at}
-use Rattle.dispatcher.proofs.KeyTables.Sending.{repeat_read}
-use Rattle.dispatcher.specs.Knows.{Kept, KeptStandsFor}
+use Rattle.dispatcher.proofs.Laws.Repeating.{due_again_is}
+use Rattle.dispatcher.specs.Knows.{Kept, KeptStandsFor, due_again}
 use Rattle.dispatcher.specs.Replying.{late_by}
 use Rattle.dispatcher.specs.Laws.{ReplyLaw, TickReplyLaw}
 
@@ -71,15 +70,15 @@ late_is ds es k now s =
     ∙ ap (λ x. late_by k.delivery (max now x)) (sym s.knows.queue.clock_is)
 
 pub reply_law : ReplyLaw
-reply_law ds es k (Open limit) s o may = ap open_reply (sym s.knows.delivery.count_is)
+reply_law ds es k (Open terms) s o may = ap open_reply (sym s.knows.delivery.count_is)
 reply_law ds es k (Windows now shown) s o may = refl
 reply_law ds es k (FocusOn now display channel) s o may = refl
 reply_law ds es k (Notify now a) s o may =
     ap (λ x. notify_reply x a) (says_down (accepted (past_of es)) k.queue.down (device_of a) s.knows.queue.down_is o.0 o.1)
 reply_law ds es k (Pump now) s o may =
     ap (λ ws. pump_reply ws (repeat_due es) (max now (clock (past_of es)))) (sym s.knows.queue.waiting_is)
-    ∙ ap (λ due. pump_reply k.queue.waiting due (max now (clock (past_of es)))) (sym (repeat_read ds es k.repeat s.lawful s.knows.keying.repeat_is).0)
-    ∙ ap (λ x. pump_reply k.queue.waiting (due_of k.repeat) (max now x)) (sym s.knows.queue.clock_is)
+    ∙ ap (λ due. pump_reply k.queue.waiting due (max now (clock (past_of es)))) (sym (due_again_is ds es k s))
+    ∙ ap (λ x. pump_reply k.queue.waiting (due_again k) (max now x)) (sym s.knows.queue.clock_is)
 reply_law ds es k (Tick now) s o may = ap (λ cs. Named (mask_of cs)) ((named_law ds es now s.lawful).0 ∙ late_is ds es k now s)
 reply_law ds es k (Receive c) s o may =
     receive_by ds es k.delivery c (live (past_of es) c) s.lawful s.knows.delivery refl may

@@ -22,6 +22,7 @@ use Rattle.dispatcher.specs.Knows.{Kept, KeyingIs, KeptStandsFor}
 use Rattle.dispatcher.specs.Staying.{delivery_of}
 use Rattle.dispatcher.specs.ReadLaws.{SameBut, RoomLaw, ReleaseLaw, EachGoLaw, AnrsGoLaw}
 use Rattle.dispatcher.proofs.Laws.Slices.{channel_set, set_as_many, index-map}
+use Rattle.dispatch_history.specs.History.{no_terms}
 
 -- what is kept of a channel does not depend on its room
 pub keeps_room : (es : List Effect) (c n : ℕ) (s : ChannelState) → Holds es c s → Holds es c (record s { spare = n })
@@ -38,9 +39,9 @@ bare_input i = record i { spare = 0 }
 -- the same channels but for their room
 pub same_channel : (t u : Table) (c : ℕ) → but_for_room u ≡ but_for_room t → bare_channel (channel_of u c) ≡ bare_channel (channel_of t c)
 same_channel t u c e =
-    sym (index-map bare_channel u.channels (c - 1) (opened_with 0))
-    ∙ ap (λ x. slice_index_or x.channels (c - 1) (opened_with 0)) e
-    ∙ index-map bare_channel t.channels (c - 1) (opened_with 0)
+    sym (index-map bare_channel u.channels (c - 1) (opened_with no_terms))
+    ∙ ap (λ x. slice_index_or x.channels (c - 1) (opened_with no_terms)) e
+    ∙ index-map bare_channel t.channels (c - 1) (opened_with no_terms)
 
 pub same_input : (t u : Table) (w : ℕ) → but_for_room u ≡ but_for_room t → bare_input (input_of u w) ≡ bare_input (input_of t w)
 same_input t u w e =

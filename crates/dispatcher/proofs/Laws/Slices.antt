@@ -4,6 +4,7 @@ use Rattle.std.proofs.lemmas.Bool.{cases_eq, eq-eqb, ne_eqb}
 use Rattle.std.proofs.lemmas.List.{get_or-set_same, get_or-set_other, length-set}
 use Rattle.dispatcher.specs.InputChannel.State.{ChannelState, opened_with}
 use Rattle.dispatcher.specs.DispatchChannels.Table.{Table, opened, channel_of, with_channel}
+use Rattle.dispatch_history.specs.History.{no_terms}
 
 -- the channel with a number is another one, and the others stay
 pub channel_set : (t : Table) (c k : ℕ) (s : ChannelState) → 1 ≤ c → 1 ≤ k → k ≤ opened t
@@ -11,11 +12,11 @@ pub channel_set : (t : Table) (c k : ℕ) (s : ChannelState) → 1 ≤ c → 1 �
 channel_set t c k s low from to =
     elim (cases_eq c k) [
       | inl e ↦
-          subst (λ v. slice_index_or (slice_set t.channels (k - 1) s) (v - 1) (opened_with 0) ≡ s) (sym e)
-          (get_or-set_same t.channels (k - 1) s (opened_with 0) (omega (arith, from, to)))
+          subst (λ v. slice_index_or (slice_set t.channels (k - 1) s) (v - 1) (opened_with no_terms) ≡ s) (sym e)
+          (get_or-set_same t.channels (k - 1) s (opened_with no_terms) (omega (arith, from, to)))
           ∙ sym (ap (λ b. cond b s (channel_of t c)) (eq-eqb c k e))
       | inr ne ↦
-          get_or-set_other t.channels (k - 1) (c - 1) s (opened_with 0) (apart c k low from ne)
+          get_or-set_other t.channels (k - 1) (c - 1) s (opened_with no_terms) (apart c k low from ne)
           ∙ sym (ap (λ b. cond b s (channel_of t c)) (ne_eqb c k ne))
     ]
   where

@@ -5,7 +5,6 @@ use Rattle.window_snapshot.specs.Mask.{mask_has}
 use Rattle.window_snapshot.proofs.Masks.{mask_has-zero}
 use Rattle.input_types.specs.declared.message.Args.{Args}
 use Rattle.focus_resolver.specs.Resolver.{FocusState}
-use Rattle.key_repeat.specs.Due.{due_of}
 use Rattle.dispatcher.proofs.KeyTables.Focusing.{focus_read, focus_requested}
 use Rattle.dispatch_calls.specs.declared.call.Call.{Call}
 use Rattle.dispatch_calls.specs.declared.call.Call.TheVariants.{Open, Windows, FocusOn, Notify, Pump, Tick, Receive, Finish, Pilfer, Remove}
@@ -27,12 +26,12 @@ use Rattle.dispatcher.specs.declared.tables.Tables.{Tables}
 use Rattle.dispatcher.specs.Memory.{IsCalm}
 use Rattle.dispatcher.specs.Needing.{LeavesFocus}
 use Rattle.dispatcher.specs.Queueing.{stepped, dispatched, with_pumps}
-use Rattle.dispatcher.specs.Tables.{TablesStandFor, kept, Goes, Pumps, GoesOn, HandsOn, is_routed}
+use Rattle.dispatcher.specs.Tables.{TablesStandFor, due_repeat, kept, Goes, Pumps, GoesOn, HandsOn, is_routed}
 use Rattle.dispatcher.proofs.Rounds.KeySteps.{idle_reply}
 
 -- the queue where a call hands in no args and dispatches none
 stepped_goes : (call : Call) (answer : Reply) (q : Queue) → is_routed call ≡ true → QueueGoes call answer q (stepped (moment_of call) q)
-stepped_goes (Open limit) answer q r = record { clock_is = refl; place_is = refl; waiting_is = refl; down_is = refl }
+stepped_goes (Open terms) answer q r = record { clock_is = refl; place_is = refl; waiting_is = refl; down_is = refl }
 stepped_goes (Windows now shown) answer q r = record { clock_is = refl; place_is = refl; waiting_is = refl; down_is = refl }
 stepped_goes (FocusOn now display channel) answer q r = record { clock_is = refl; place_is = refl; waiting_is = refl; down_is = refl }
 stepped_goes (Notify now args) answer q r = absurd (true≢false (sym r))
@@ -87,7 +86,7 @@ idle_on old later new b answer now place clk waits time at is reply g =
 
 -- a pump that is idle is due nothing
 pub not_idle : (es : List Effect) (q : Queue) (r : Routing) (now clk : ℕ) → KeptStandsFor r.displays es (kept q r) → slice_get q.waiting 0 ≡ None
-    → clk ≡ max now q.clock → is_due (due_of r.repeat) clk ≡ true → IsCalm es (Pump now) → ⊥
+    → clk ≡ max now q.clock → is_due (due_repeat r) clk ≡ true → IsCalm es (Pump now) → ⊥
 not_idle es q r now clk s none time due calm =
     let same : Repeated ≡ Idle = idle_reply es now q clk r true none (sym time) s due ∙ calm in absurd (cc same)
 

@@ -73,7 +73,7 @@ other_steps ds es k s =
           ∙ ap (λ b. b && stays k.shown.windows next w) (sym number)
           ∙ sym (has w);
       focuses = λ now watchers y c. tt;
-      opens = λ limit number watchers. tt;
+      opens = λ terms number watchers. tt;
       ticks = λ now mask watchers w number. refl;
       pilfers = λ now c d watchers. (refl, refl);
       removes = λ now c watchers. refl;

@@ -58,7 +58,7 @@ pub may_hand : (es : List Effect) (t : Tables) (call : Call) → StandsFor es (s
 may_hand es t (Receive c) s = λ lives.
     let number = live_number t.routing.displays es c s.lawful lives in
     subst (λ n. n ≤ received (past_of es) c) (ap (λ x. x.gone) (channel_bare t.routing.channels c)) ((s.may_go c number.0).of_live lives)
-may_hand es t (Open limit) s = tt
+may_hand es t (Open terms) s = tt
 may_hand es t (Windows now shown) s = tt
 may_hand es t (FocusOn now display channel) s = tt
 may_hand es t (Notify now args) s = tt

@@ -32,6 +32,7 @@ use Rattle.dispatcher.specs.Carrying.{TakesMark}
 use Rattle.dispatcher.specs.Tables.{kept, Goes, HandsOn}
 use Rattle.dispatcher.proofs.Laws.Gone.{passed_gone, finished_gone, none_gone}
 use Rattle.route_split.specs.declared.mark.Mark.TheVariants.{Forget}
+use Rattle.dispatch_history.specs.History.{no_terms}
 
 -- all but the channels stays, and what their windows were sent
 stays_but : (call : Call) (answer : Reply) (queue later : Queue) (old : Routing) (u : Table)
@@ -111,7 +112,7 @@ hands_live c old u lives is =
         let same : u ≡ old.channels =
         is
         ∙ ap (λ b. with_channel c (cond b (received_one s) s) old.channels) e
-        ∙ (λ i. record old.channels { channels = set-get_or old.channels.channels (c - 1) (opened_with 0) i }) in
+        ∙ (λ i. record old.channels { channels = set-get_or old.channels.channels (c - 1) (opened_with no_terms) i }) in
         subst (λ x. KeptStandsFor old.displays (step old.displays (Receive c) answer es) (kept later (record old { channels = x }))) (sym same)
         (rested (Receive c) answer es queue later old stands goes r tt
         (subst (λ a. is_no_op (Receive c) a ≡ true) (sym (r ∙ h)) refl))

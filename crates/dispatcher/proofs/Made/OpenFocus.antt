@@ -149,10 +149,10 @@ target_stays ds es k g number t s r e =
     e
 
 pub open_keys : OpenKeysLaw
-open_keys ds es k g limit number channel s r aims = by_target (target_of k.focus) refl
+open_keys ds es k g terms number channel s r aims = by_target (target_of k.focus) refl
   where
     by_target : (o : Option ℕ) → target_of k.focus ≡ o
-        → AreKeys o (mask_with k.delivery.live number) (sent_target (Open limit) (Opened number) k g) channel []
+        → AreKeys o (mask_with k.delivery.live number) (sent_target (Open terms) (Opened number) k g) channel []
     by_target None e = refl
     by_target (Some t) e = (
       aims t e,

@@ -41,6 +41,8 @@ use Rattle.dispatcher.proofs.Laws.Gone.{opened_gone, both_gone}
 use Rattle.dispatcher.proofs.Rounds.Going.{Keyed, IsLive, StillGoes, still_round, still_step, still_gift}
 use Rattle.dispatcher.proofs.Rounds.Calls.{target_lives}
 use Rattle.dispatcher.proofs.Made.NoOps.{no_op_at}
+use Rattle.dispatch_history.specs.History.{no_terms}
+use Rattle.dispatch_calls.specs.declared.terms.Terms.{Terms}
 
 -- a window that holds nothing has no pointers
 count_none : (input : Tracked) (ds : List ℕ) → ((d : ℕ) → pointers_of input d ≡ []) → count_of input ds ≡ 0
@@ -100,11 +102,11 @@ ready_welcome ts r t target number gained is room w lives h =
         record { room = omega (arith, few, room.room); track_room = omega (arith, few, room.track_room) }
 
 -- a new channel has room for a message
-pub welcome : (limit number : ℕ) (t p : Table) → Opens limit number t p → IsWelcome number p
-welcome limit number t p h =
+pub welcome : (terms : Terms) (number : ℕ) (t p : Table) → Opens terms number t p → IsWelcome number p
+welcome terms number t p h =
     let at : number - 1 ≡ length t.channels = omega (arith, h.number_is) in
-    let there : channel_of p number ≡ new_channel limit =
-    ap₂ (λ xs n. get_or xs n (opened_with 0)) h.channels_are at ∙ get_or-append_seam t.channels (new_channel limit) [] (opened_with 0) in
+    let there : channel_of p number ≡ new_channel terms =
+    ap₂ (λ xs n. get_or xs n (opened_with no_terms)) h.channels_are at ∙ get_or-append_seam t.channels (new_channel terms) [] (opened_with no_terms) in
     record {
       room = subst (λ s. 1 ≤ s.spare) (sym there) (omega arith);
       track_room = omega (arith, h.unsent.spare_is);
@@ -112,10 +114,10 @@ welcome limit number t p h =
     }
 
 -- nothing was delivered to it
-pub timely_opened : (limit number clock : ℕ) (t p : Table)
-    → Opens limit number t p → IsTimely clock t → IsTimely clock p
-timely_opened limit number clock t p h timely c lives =
-    let o = opens_law limit number t p h in
+pub timely_opened : (terms : Terms) (number clock : ℕ) (t p : Table)
+    → Opens terms number t p → IsTimely clock t → IsTimely clock p
+timely_opened terms number clock t p h timely c lives =
+    let o = opens_law terms number t p h in
     elim (cases_eq number c) [
       | inl is ↦
           let none : (channel_of p c).unfinished ≡ [] = ap (λ n. (channel_of p n).unfinished) (sym is) ∙ ap (λ s. s.unfinished) o.channel_is in
@@ -149,11 +151,11 @@ target_at : (o : Option ℕ) (t : ℕ) → o ≡ Some t → unwrap_or o 0 ≡ t
 target_at o t e = ap (λ x. unwrap_or x 0) e
 
 -- a channel is opened
-pub opens_goes : (limit number place clock : ℕ) (old new : Routing) (p : Table)
-    → Opens limit number old.channels p
+pub opens_goes : (terms : Terms) (number place clock : ℕ) (old new : Routing) (p : Table)
+    → Opens terms number old.channels p
     → Welcomes number place clock (record old { channels = p }) new
-    → Goes (λ now. Open limit) (Opened number) place clock old new
-opens_goes limit number place clock old new p h w =
+    → Goes (λ now. Open terms) (Opened number) place clock old new
+opens_goes terms number place clock old new p h w =
     record {
       after = λ es now queue later at clk stands goes.
           let k = kept queue old in
@@ -162,13 +164,13 @@ opens_goes limit number place clock old new p h w =
           let dead : mask_has old.channels.live number ≡ false =
           by_live (mask_has old.channels.live number) refl in
           let refocus = subst (λ m. Refocuses old.shown.windows m old.focus w.focus) h.live_is w.refocuses in
-          let is : StillGoes (Open limit) (Opened number) queue later place clock old new r NoOp None [] 0 (bit_and w.gained (mask_with 0 number)) p.live =
+          let is : StillGoes (Open terms) (Opened number) queue later place clock old new r NoOp None [] 0 (bit_and w.gained (mask_with 0 number)) p.live =
           record {
             is = w.is;
             queue_goes = goes;
             place_is = at;
             clock_is = goes.clock_is ∙ clk;
-            shown = subst (λ x. ShownGoes (Open limit) old.shown x) (sym w.carries.shown_is) (record { windows_are = refl; origins_are = λ w low high. refl });
+            shown = subst (λ x. ShownGoes (Open terms) old.shown x) (sym w.carries.shown_is) (record { windows_are = refl; origins_are = λ w low high. refl });
             touches = w.carries.touches;
             covers = w.carries.covers;
             focus =
@@ -182,27 +184,27 @@ opens_goes limit number place clock old new p h w =
                 subst (IsLive (target_of old.focus)) (sym h.live_is)
                 (live_more (target_of old.focus) old.channels.live number (target_lives old.displays es k (target_of old.focus) stands refl));
             keyed =
-                subst (λ m. Keyed (target_of old.focus) m (sent_target (Open limit) (Opened number) k new.focus) []) (sym h.live_is)
-                (subst (λ f. Keyed (target_of old.focus) (mask_with old.channels.live number) (sent_target (Open limit) (Opened number) k f) []) (sym focus)
-                (keyed_from (target_of old.focus) (mask_with old.channels.live number) (sent_target (Open limit) (Opened number) k w.focus) (target_number old.focus) []
-                (open_keys old.displays es k w.focus limit number (target_number old.focus) stands refocus (λ t e. target_at (target_of old.focus) t e))));
+                subst (λ m. Keyed (target_of old.focus) m (sent_target (Open terms) (Opened number) k new.focus) []) (sym h.live_is)
+                (subst (λ f. Keyed (target_of old.focus) (mask_with old.channels.live number) (sent_target (Open terms) (Opened number) k f) []) (sym focus)
+                (keyed_from (target_of old.focus) (mask_with old.channels.live number) (sent_target (Open terms) (Opened number) k w.focus) (target_number old.focus) []
+                (open_keys old.displays es k w.focus terms number (target_number old.focus) stands refocus (λ t e. target_at (target_of old.focus) t e))));
             repeats = w.carries.repeat_is;
           } in
-          open_law old.displays limit number es k (kept later new) r old.channels p new.channels w.carries.channels.changed stands refl refl
-          (reply_open (opened old.channels) number h.few h.number_is ∙ sym (reply_law old.displays es k (Open limit) stands tt tt))
-          (opens_law limit number old.channels p h)
-          (still_round (Open limit) (Opened number) queue later place clock old new r NoOp None [] 0 (bit_and w.gained (mask_with 0 number)) p.live is)
-          (still_step old.displays (Open limit) (Opened number) es old r NoOp None (target_number old.focus) [] 0 (bit_and w.gained (mask_with 0 number)) w.is
-          ((other_steps old.displays es k stands).opens limit number r.watchers))
-          (still_gift old.displays (Open limit) (Opened number) es old r NoOp (target_number old.focus) [] 0 (bit_and w.gained (mask_with 0 number)) w.is
-          ((other_steps old.displays es k stands).opens limit number r.watchers))
+          open_law old.displays terms number es k (kept later new) r old.channels p new.channels w.carries.channels.changed stands refl refl
+          (reply_open (opened old.channels) number h.few h.number_is ∙ sym (reply_law old.displays es k (Open terms) stands tt tt))
+          (opens_law terms number old.channels p h)
+          (still_round (Open terms) (Opened number) queue later place clock old new r NoOp None [] 0 (bit_and w.gained (mask_with 0 number)) p.live is)
+          (still_step old.displays (Open terms) (Opened number) es old r NoOp None (target_number old.focus) [] 0 (bit_and w.gained (mask_with 0 number)) w.is
+          ((other_steps old.displays es k stands).opens terms number r.watchers))
+          (still_gift old.displays (Open terms) (Opened number) es old r NoOp (target_number old.focus) [] 0 (bit_and w.gained (mask_with 0 number)) w.is
+          ((other_steps old.displays es k stands).opens terms number r.watchers))
           (λ s e this holds.
           subst (λ x. SendsAll w.carries.channels.changed (sent_in new.covers r s e) old.shown.origins x p new.channels) (sym (goes.clock_is ∙ clk))
           (w.carries.channels.sends s e this holds))
           refl
           refl;
       displays_are = w.carries.displays_are;
-      gone_are = both_gone old.channels p new.channels (opened_gone limit number old.channels p h) w.carries.gone_are;
+      gone_are = both_gone old.channels p new.channels (opened_gone terms number old.channels p h) w.carries.gone_are;
     }
   where
     by_live : (b : Bool) → mask_has old.channels.live number ≡ b → mask_has old.channels.live number ≡ false
@@ -213,11 +215,11 @@ opens_goes limit number place clock old new p h w =
     reply_open count number few is = ap Opened is ∙ sym (ap (λ b. cond b (Opened (count + 1)) Full) (lt-ltb count 64 few))
 
 -- 64 were opened
-pub opens_none : (limit place clock : ℕ) (old : Routing) → opened old.channels ≡ 64 → Goes (λ now. Open limit) Full place clock old old
-opens_none limit place clock old full =
-    no_op_at (λ now. Open limit) Full place clock old (λ now. refl) (λ now. tt)
+pub opens_none : (terms : Terms) (place clock : ℕ) (old : Routing) → opened old.channels ≡ 64 → Goes (λ now. Open terms) Full place clock old old
+opens_none terms place clock old full =
+    no_op_at (λ now. Open terms) Full place clock old (λ now. refl) (λ now. tt)
     (λ es now queue clk stands.
-    sym (reply_law old.displays es (kept queue old) (Open limit) stands tt tt ∙ ap open_reply full))
+    sym (reply_law old.displays es (kept queue old) (Open terms) stands tt tt ∙ ap open_reply full))
 
 -- the window of a new channel is welcome by a round that is carried out
 pub welcomes_by : (number place clock : ℕ) (old new : Routing) (r : Round) (gained : ℕ) (g : FocusState)

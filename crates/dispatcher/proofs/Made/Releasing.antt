@@ -19,6 +19,7 @@ use Rattle.dispatcher.specs.declared.tables.Routing.{Routing}
 use Rattle.dispatcher.specs.declared.tables.Tables.{Tables}
 use Rattle.dispatcher.specs.Tables.{TablesStandFor, kept}
 use Rattle.dispatcher.proofs.Room.Rooms.{channel_bare}
+use Rattle.dispatch_history.specs.History.{no_terms}
 
 -- the tables stand for what they stood for, where a channel keeps what it kept but for messages that may be released
 lets_go : (es : List Effect) (old : Tables) (u : Table) (c : ℕ) (s : ChannelState) → TablesStandFor es old → 1 ≤ c → c ≤ opened old.routing.channels
@@ -68,7 +69,7 @@ gone_there : (t u : Table) (c : ℕ) (s : ChannelState) → u ≡ with_channel c
     → (channel_of (but_for_room u) c).gone ≡ s.gone
 gone_there t u c s is low high =
     let there : channel_of u c ≡ s =
-    ap (λ x. channel_of x c) is ∙ get_or-set_same t.channels (c - 1) s (opened_with 0) (omega (arith, low, high)) in
+    ap (λ x. channel_of x c) is ∙ get_or-set_same t.channels (c - 1) s (opened_with no_terms) (omega (arith, low, high)) in
     ap (λ x. x.gone) (channel_bare u c) ∙ ap (λ x. x.gone) there
 
 -- all that were received are, and those that were before
@@ -118,7 +119,7 @@ others_gone t u c k s is low from other =
     let apart : (k ≡ c) → ⊥ = λ e. true≢false (sym (eq-eqb k c e) ∙ other) in
     let there : channel_of u k ≡ channel_of t k =
     ap (λ x. channel_of x k) is
-    ∙ get_or-set_other t.channels (c - 1) (k - 1) s (opened_with 0) (λ e. apart (omega (arith, e, low, from))) in
+    ∙ get_or-set_other t.channels (c - 1) (k - 1) s (opened_with no_terms) (λ e. apart (omega (arith, e, low, from))) in
     ap (λ x. x.gone) (channel_bare u k) ∙ ap (λ x. x.gone) there ∙ sym (ap (λ x. x.gone) (channel_bare t k))
 
 -- who is live is one whether it is read of the tables or of the history

@@ -17,6 +17,7 @@ use Rattle.dispatcher.specs.Input.{InputIs}
 use Rattle.dispatcher.specs.Knows.{KeptStandsFor}
 use Rattle.dispatcher.specs.Staying.{delivery_of}
 use Rattle.dispatcher.specs.Seen.{kept_of}
+use Rattle.dispatch_history.specs.History.{no_terms}
 
 -- a channel without its room
 abbrev pub bare : ChannelState → ChannelState
@@ -32,7 +33,7 @@ map_or f (x ∷ xs) zero d e h = refl
 map_or f (x ∷ xs) (suc i) d e h = map_or f xs i d e h
 
 pub channel_bare : (t : Table) (c : ℕ) → channel_of (but_for_room t) c ≡ bare (channel_of t c)
-channel_bare t c = map_or bare t.channels (c - 1) (opened_with 0) (opened_with 0) refl
+channel_bare t c = map_or bare t.channels (c - 1) (opened_with no_terms) (opened_with no_terms) refl
 
 pub input_bare : (t : Table) (w : ℕ) → input_of (but_for_room t) w ≡ bare_input (input_of t w)
 input_bare t w = map_or bare_input t.inputs (w - 1) unsent unsent refl

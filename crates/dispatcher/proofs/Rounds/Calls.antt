@@ -10,7 +10,6 @@ use Rattle.window_snapshot.specs.Named.{is_shown_on}
 use Rattle.window_snapshot.specs.Walls.{reaches}
 use Rattle.window_snapshot.proofs.Masks.{mask_has-zero}
 use Rattle.focus_resolver.specs.Resolver.{FocusState, target_of, focus_of, is_focused, is_at}
-use Rattle.key_repeat.specs.Due.{due_of}
 use Rattle.dispatcher.specs.RoundLaws.{reach_on}
 use Rattle.dispatcher.specs.KeyTables.Held.{target_sent}
 use Rattle.routing_rules.specs.Scene.{Scene, Moves}
@@ -46,7 +45,7 @@ use Rattle.dispatcher.proofs.Laws.Stepping.{motion_step}
 use Rattle.dispatcher.specs.declared.tables.Routing.{Routing}
 use Rattle.dispatcher.specs.Carrying.{SendsRound, CarriesOut, CarriesFrom, IsOf}
 use Rattle.dispatcher.specs.Keying.{target_number}
-use Rattle.dispatcher.specs.Tables.{kept, Pumps}
+use Rattle.dispatcher.specs.Tables.{due_repeat, kept, Pumps}
 use Rattle.dispatcher.proofs.Laws.Gone.{room_gone, both_gone}
 use Rattle.dispatcher.proofs.Rounds.Going.{Outgoing, round_sent, Keyed, keyed_none, IsLive, StillGoes, still_round, still_step}
 
@@ -125,7 +124,7 @@ pumped es now a queue later place clock old first at clk stands goes =
       stands = stands;
       goes = goes;
       reply_is =
-          dispatches queue.waiting a (due_of old.repeat) (max now queue.clock) first ∙ sym (reply_law old.displays es (kept queue old) (Pump now) stands tt tt);
+          dispatches queue.waiting a (due_repeat old) (max now queue.clock) first ∙ sym (reply_law old.displays es (kept queue old) (Pump now) stands tt tt);
       rises = tt;
       sending = refl;
     }

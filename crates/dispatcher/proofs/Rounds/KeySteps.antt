@@ -9,7 +9,7 @@ use Rattle.input_types.specs.declared.message.Args.TheVariants.{Key as KeyOfDevi
 use Rattle.window_snapshot.specs.Mask.{mask_has}
 use Rattle.window_snapshot.proofs.Masks.{mask_has-zero, mask_has_channel}
 use Rattle.focus_resolver.specs.Resolver.{target_of, is_at}
-use Rattle.key_repeat.specs.Due.{Sent, next_of, due_of, is_repeated, repeated, delay_after}
+use Rattle.key_repeat.specs.Due.{Sent, next_of, due_after, due_by, is_repeated, repeated, delay_after}
 use Rattle.dispatcher.specs.KeyTables.Held.{one_sent, target_sent}
 use Rattle.dispatcher.proofs.KeyTables.Sending.{repeat_read}
 use Rattle.touch_state.specs.Touches.{Touches}
@@ -37,12 +37,13 @@ use Rattle.dispatcher.proofs.Laws.Stepping.{other_steps}
 use Rattle.dispatcher.specs.declared.tables.Routing.{Routing}
 use Rattle.dispatcher.specs.Carrying.{SendsRound, CarriesSome, IsOf}
 use Rattle.dispatcher.specs.Keying.{target_number, only_live}
-use Rattle.dispatcher.specs.Tables.{kept, Pumps}
+use Rattle.dispatcher.specs.Tables.{due_repeat, kept, Pumps}
 use Rattle.dispatcher.proofs.Laws.Gone.{room_gone, both_gone, none_gone}
 use Rattle.dispatcher.proofs.Rounds.Going.{Keyed, still_gift}
 use Rattle.dispatcher.proofs.Rounds.Calls.{sent_same, pumped}
 use Rattle.dispatcher.proofs.Laws.NoOpLaws.{no_op_as_is}
 use Rattle.dispatcher.proofs.Made.NoOps.{rested}
+use Rattle.key_repeat.specs.declared.delays.Repeats.{Repeats}
 
 -- where nobody listens nobody is sent
 pub keyed_nobody : (o : Option ℕ) (alive : ℕ) (outgoing : ℕ → List KeyMsg) → None ≡ only_live alive o → Keyed o alive outgoing []
@@ -174,15 +175,15 @@ waits_none [] due at e = refl
 waits_none (w ∷ ws) due at e = absurd (cc e)
 
 pub idle_reply : (es : List Effect) (now : ℕ) (queue : Queue) (clock : ℕ) (old : Routing) (b : Bool) → slice_get queue.waiting 0 ≡ None → max now queue.clock ≡ clock
-    → KeptStandsFor old.displays es (kept queue old) → is_due (due_of old.repeat) clock ≡ b → cond b Repeated Idle ≡ reply_to es (Pump now)
+    → KeptStandsFor old.displays es (kept queue old) → is_due (due_repeat old) clock ≡ b → cond b Repeated Idle ≡ reply_to es (Pump now)
 idle_reply es now queue clock old b none clk stands due =
     ap (λ x. cond x Repeated Idle) (sym due)
-    ∙ ap (λ n. cond (is_due (due_of old.repeat) n) Repeated Idle) (sym clk)
-    ∙ sym (waits_none queue.waiting (due_of old.repeat) (max now queue.clock) none)
+    ∙ ap (λ n. cond (is_due (due_repeat old) n) Repeated Idle) (sym clk)
+    ∙ sym (waits_none queue.waiting (due_repeat old) (max now queue.clock) none)
     ∙ sym (reply_law old.displays es (kept queue old) (Pump now) stands tt tt)
 
 -- no repeat is due
-pub idle_pump : (place clock : ℕ) (old : Routing) → is_due (due_of old.repeat) clock ≡ false → Pumps None Idle place clock old old
+pub idle_pump : (place clock : ℕ) (old : Routing) → is_due (due_repeat old) clock ≡ false → Pumps None Idle place clock old old
 idle_pump place clock old due =
     record {
       after = λ es now queue later none at clk stands goes.
@@ -210,7 +211,7 @@ keyed_repeat ds es k alive n (Some t) outgoing s e at is = λ lives. sym (is t �
 
 -- a key is repeated
 pub repeat_pump : (old new : Routing) (place clock : ℕ) (n : ℕ × KeyMsg) (lost gained : ℕ)
-    → lost ≡ 0 → gained ≡ 0 → is_due (due_of old.repeat) clock ≡ true → next_of old.repeat ≡ Some n
+    → lost ≡ 0 → gained ≡ 0 → is_due (due_repeat old) clock ≡ true → next_of old.repeat ≡ Some n
     → CarriesSome NoOp (n.1 ∷ []) lost gained place clock old new → Pumps None Repeated place clock old new
 repeat_pump old new place clock n lost gained l g due e some =
     record {
@@ -248,12 +249,16 @@ repeat_pump old new place clock n lost gained l g due e some =
     }
 
 -- what may be repeated at some moment has a next message
-pub due_next : (last : Option Sent) (clock : ℕ) → is_due (due_of last) clock ≡ true → next_of last ≡ None → ⊥
-due_next None clock due e = true≢false (sym due)
-due_next (Some s) clock due e = by_test (is_repeated s.key) refl
+pub due_next : (delays : ℕ → Option Repeats) (last : Option Sent) (clock : ℕ) → is_due (due_by delays last) clock ≡ true → next_of last ≡ None → ⊥
+due_next delays None clock due e = true≢false (sym due)
+due_next delays (Some s) clock due e = by_delays (delays s.channel) due
   where
-    by_test : (b : Bool) → is_repeated s.key ≡ b → ⊥
-    by_test true h =
+    by_test : (r : Repeats) (b : Bool) → is_repeated s.key ≡ b → is_due (due_after (Some r) s) clock ≡ true → ⊥
+    by_test r true h q =
         let some : Some (s.channel, repeated s.key) ≡ None = sym (ap (λ b. cond b (Some (s.channel, repeated s.key)) None) h) ∙ e in absurd (cc some)
-    by_test false h =
-        true≢false (sym due ∙ ap (λ b. is_due (cond b (Some (s.clock + delay_after s.key.repeat)) None) clock) h)
+    by_test r false h q =
+        true≢false (sym q ∙ ap (λ b. is_due (cond b (Some (s.clock + delay_after r s.key.repeat)) None) clock) h)
+
+    by_delays : (o : Option Repeats) → is_due (due_after o s) clock ≡ true → ⊥
+    by_delays None q = true≢false (sym q)
+    by_delays (Some r) q = by_test r (is_repeated s.key) refl q

@@ -41,6 +41,7 @@ use Rattle.dispatcher.specs.DispatchTables.Delivery.{DeliveryIs}
 use Rattle.dispatcher.proofs.DispatchTables.Numbering.{messages_from, length-sent_on, reverse_sent}
 use Rattle.dispatcher.proofs.DispatchTables.Unopened.{unopened_law}
 use Rattle.dispatcher.specs.Staying.{delivery_of}
+use Rattle.dispatch_history.specs.History.{no_terms}
 
 -- ---- the table
 
@@ -65,13 +66,13 @@ pub number_at : (f : ℕ → ChannelState → ChannelState) (ss : List ChannelSt
     → channel_in (by_number f 1 ss) c ≡ f c (channel_in ss c)
 number_at f ss c from to =
     let number : 1 + (c - 1) ≡ c = omega (arith, from) in
-    place_by f 1 ss (c - 1) (opened_with 0) (omega (arith, from, to)) ∙ ap (λ n. f n (channel_in ss c)) number
+    place_by f 1 ss (c - 1) (opened_with no_terms) (omega (arith, from, to)) ∙ ap (λ n. f n (channel_in ss c)) number
 
 pub number_past : (f : ℕ → ChannelState → ChannelState) (ss : List ChannelState) (c : ℕ) → length ss < c
     → channel_in (by_number f 1 ss) c ≡ channel_in ss c
 number_past f ss c past =
-    get_or_past (by_number f 1 ss) (c - 1) (opened_with 0) (omega (arith, past, count_by f 1 ss))
-    ∙ sym (get_or_past ss (c - 1) (opened_with 0) (omega (arith, past)))
+    get_or_past (by_number f 1 ss) (c - 1) (opened_with no_terms) (omega (arith, past, count_by f 1 ss))
+    ∙ sym (get_or_past ss (c - 1) (opened_with no_terms) (omega (arith, past)))
 
 -- it makes no difference when messages are released
 pub released_now : (clk : ℕ) (s : ChannelState) → published_at clk (each_released s) ≡ each_released (published_at clk s)
@@ -161,7 +162,7 @@ holds_all ds es k t c s e low =
       | inr n ↦
           let past : opened t < c = leb-false c (opened t) n in
           subst (Holds es c)
-          (unopened_law ds es c s.lawful (omega (arith, past, is.count_is)) ∙ sym (get_or_past t.channels (c - 1) (opened_with 0) (omega (arith, past))))
+          (unopened_law ds es c s.lawful (omega (arith, past, is.count_is)) ∙ sym (get_or_past t.channels (c - 1) (opened_with no_terms) (omega (arith, past))))
           (record { is = refl; most = omega arith })
     ]
 

@@ -1,5 +1,5 @@
 -- The channels as they would be if they kept the messages of a Move that bypasses them: then it is dispatched as any Move.
-use Rattle.std.proofs.Common.{◌≡◌, ◌⊎◌, ℕ, suc, ◌+◌, ◌-◌, ◌≤◌, nat_le, true, false, ◌&&◌, cond, List, [], ◌∷◌, ◌++◌, length, drop, reverse, Some, None, refl, sym, ap, ap₂, ◌∙◌, subst, arith, inl, inr, length-drop}
+use Rattle.std.proofs.Common.{◌≡◌, ◌⊎◌, ℕ, suc, ◌+◌, ◌≤◌, nat_le, true, false, ◌&&◌, cond, List, [], ◌∷◌, ◌++◌, length, drop, reverse, Some, None, refl, sym, ap, ap₂, ◌∙◌, subst, arith, inl, inr, length-drop}
 use Rattle.std.specs.List.{list_any}
 use Rattle.std.proofs.lemmas.Bool.{cases_Bool, eq-eqb, and_parts, leb-true, leb-false}
 use Rattle.std.proofs.lemmas.List.{length-reverse}

@@ -13,6 +13,7 @@ use Rattle.dispatcher.specs.DispatchTables.Delivery.{noted_with}
 use Rattle.dispatcher.specs.DispatchTables.Dues.{anrs_in}
 use Rattle.dispatcher.specs.DispatchChannels.Table.{Table, opened, channel_of, input_of}
 use Rattle.dispatcher.specs.DispatchChannels.Heard.{body_from}
+use Rattle.dispatch_calls.specs.declared.terms.Terms.{Terms}
 
 -- a window was sent nothing, and there is room for what it is sent first
 pub record IsUnsent (input : Tracked) : Type 0 where
@@ -21,17 +22,17 @@ pub record IsUnsent (input : Tracked) : Type 0 where
   pub spare_is : input.spare ≡ 1
 
 -- a channel without messages, with room for the first one
-abbrev pub new_channel : (limit : ℕ) → ChannelState
-new_channel limit = with_spare 1 (opened_with limit)
+abbrev pub new_channel : (terms : Terms) → ChannelState
+new_channel terms = with_spare 1 (opened_with terms)
 
--- A channel with the next number is opened with a limit, and is live and able. What each window was sent is kept as before, and none but
+-- A channel with the next number is opened on terms, and is live and able. What each window was sent is kept as before, and none but
 -- those that were opened was live.
-pub record Opens (limit number : ℕ) (old new : Table) : Type 0 where
+pub record Opens (terms : Terms) (number : ℕ) (old new : Table) : Type 0 where
   pub few : opened old < 64
   pub as_many : length old.inputs ≡ opened old
   pub opened_live : (c : ℕ) → mask_has old.live c ≡ true → c ≤ opened old
   pub number_is : number ≡ opened old + 1
-  pub channels_are : new.channels ≡ old.channels ++ new_channel limit ∷ []
+  pub channels_are : new.channels ≡ old.channels ++ new_channel terms ∷ []
   pub inputs_are : new.inputs ≡ old.inputs ++ input_of new number ∷ []
   pub unsent : IsUnsent (input_of new number)
   pub live_is : new.live ≡ mask_with old.live number
@@ -39,9 +40,9 @@ pub record Opens (limit number : ℕ) (old new : Table) : Type 0 where
   pub anrs_are : new.anrs ≡ old.anrs
 
 -- no channel is opened exactly where 64 are, and nothing changes then
-abbrev pub OpensOrNot : (limit : ℕ) → Option ℕ → (old new : Table) → Type 0
-OpensOrNot limit None old new = (opened old ≡ 64) × (new ≡ old)
-OpensOrNot limit (Some number) old new = Opens limit number old new
+abbrev pub OpensOrNot : (terms : Terms) → Option ℕ → (old new : Table) → Type 0
+OpensOrNot terms None old new = (opened old ≡ 64) × (new ≡ old)
+OpensOrNot terms (Some number) old new = Opens terms number old new
 
 -- a channel is sent a body that is in display pixels: its places are counted from an origin where it is enqueued, and not where it is
 -- tracked

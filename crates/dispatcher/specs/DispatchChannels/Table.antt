@@ -6,6 +6,7 @@ use Rattle.dispatcher.specs.CancelSynthesis.Tracked.{with_spare as tracked_with_
 use Rattle.window_snapshot.specs.Mask.{mask_has}
 use Rattle.dispatcher.specs.DispatchTables.Delivery.{Noted}
 use Rattle.dispatcher.specs.DispatchTables.Dues.{due_in}
+use Rattle.dispatch_history.specs.History.{no_terms}
 
 -- all channels
 pub record Table : Type 0 where
@@ -30,7 +31,7 @@ IsOpened t c = (1 ≤ c) × (c ≤ opened t)
 
 -- the channel with a number from 1 on, of a list of channels; one without messages where none was opened with it
 abbrev pub channel_in : List ChannelState → ℕ → ChannelState
-channel_in ss c = slice_index_or ss (c - 1) (opened_with 0)
+channel_in ss c = slice_index_or ss (c - 1) (opened_with no_terms)
 
 -- the same of all channels
 abbrev pub channel_of : Table → ℕ → ChannelState

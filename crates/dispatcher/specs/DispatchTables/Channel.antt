@@ -8,15 +8,16 @@ use Rattle.dispatch_calls.specs.declared.counts.Counts.{Counts}
 use Rattle.dispatch_calls.specs.declared.call.Call.TheVariants.{Open, Receive, Finish}
 use Rattle.dispatch_calls.specs.declared.reply.Reply.{Reply}
 use Rattle.dispatch_calls.specs.declared.reply.Reply.TheVariants.{Opened, Done, Empty, Got}
-use Rattle.dispatch_history.specs.History.{limit_of, live, received, finished}
+use Rattle.dispatch_history.specs.History.{terms_of, live, received, finished}
 use Rattle.dispatch_history.specs.Effect.{Effect, past_of, stream}
 use Rattle.dispatch_history.specs.Delivery.{published, delivery, unfinished}
+use Rattle.dispatch_calls.specs.declared.terms.Terms.{Terms}
 
 -- a channel after a history with these effects, with its first messages released and room for so many more
 abbrev pub channel_at : List Effect → (channel gone spare : ℕ) → ChannelState
 channel_at es c gone spare =
     record {
-      limit = limit_of (past_of es) c;
+      terms = terms_of (past_of es) c;
       gone = gone;
       messages = drop gone (reverse (stream es c));
       published = published es c;
@@ -26,24 +27,24 @@ channel_at es c gone spare =
       spare = spare;
     }
 
--- what a step does to a channel besides sending: it opens the channel with a limit, hands its owner the next message,
+-- what a step does to a channel besides sending: it opens the channel on terms, hands its owner the next message,
 -- finishes a message of it, or none of these
 pub data Part : Type 0 where
-  Opens : (limit : ℕ) → Part
+  Opens : (terms : Terms) → Part
   Receives : Part
   Finishes : (seq : ℕ) → Part
   Untouched : Part
 
 -- the part of a channel in the step with this call and reply
 abbrev pub part_of : Call → Reply → ℕ → Part
-part_of (Open limit) (Opened k) c = if c == k then Opens limit else Untouched
+part_of (Open terms) (Opened k) c = if c == k then Opens terms else Untouched
 part_of (Receive k) (Got m) c = if c == k then Receives else Untouched
 part_of (Finish now k seq) Done c = if c == k then Finishes seq else Untouched
 part_of call reply c = Untouched
 
 -- a channel after its part in a step
 abbrev pub with_part : Part → ChannelState → ChannelState
-with_part (Opens limit) s = record s { limit = limit }
+with_part (Opens terms) s = record s { terms = terms }
 with_part Receives s = received_one s
 with_part (Finishes seq) s = finished_with seq s
 with_part Untouched s = s

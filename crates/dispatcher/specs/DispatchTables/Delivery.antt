@@ -1,7 +1,8 @@
 -- What is kept of all channels, and how a step changes it.
-use Rattle.std.specs.Prelude.{◌≡◌, ℕ, ◌+◌, ◌≤◌, Bool, true, false, List, [], ◌++◌, drop, length, Option}
+use Rattle.std.specs.Prelude.{◌≡◌, ℕ, ◌+◌, ◌≤◌, Bool, true, false, List, [], ◌++◌, drop, length, nat_le, Option, None, if◌then◌else◌}
 use Rattle.input_types.specs.declared.message.Body.{Body}
 use Rattle.window_snapshot.specs.Mask.{mask_has}
+use Rattle.key_repeat.specs.declared.delays.Repeats.{Repeats}
 use Rattle.dispatch_calls.specs.declared.call.Call.{Call}
 use Rattle.dispatch_calls.specs.declared.counts.Anr.{Anr}
 use Rattle.dispatch_calls.specs.declared.reply.Reply.{Reply}
@@ -50,6 +51,10 @@ pub record Delivery : Type 0 where
 -- when a channel is due to be reported, by what is kept
 abbrev pub due_kept : Delivery → ℕ → Option ℕ
 due_kept k c = due_in (mask_has k.able c) (k.channel c)
+
+-- when keys are repeated for a channel, by what is kept; never where no channel has the number
+abbrev pub repeats_kept : Delivery → ℕ → Option Repeats
+repeats_kept k c = if nat_le 1 c then (k.channel c).terms.repeats else None
 
 -- it stands for the effects of a history
 pub record DeliveryIs (es : List Effect) (k : Delivery) : Type 0 where

@@ -18,7 +18,7 @@ due_moment es c =
 
 -- the same by what is kept of the channel
 abbrev pub due_in : (is_able : Bool) → ChannelState → Option ℕ
-due_in is_able s = if is_able then option_map (λ p. p.1 + s.limit) (oldest_of s) else None
+due_in is_able s = if is_able then option_map (λ p. p.1 + s.terms.limit) (oldest_of s) else None
 
 -- a pair of moment and channel as a due
 abbrev pub due_pair : ℕ × ℕ → Due

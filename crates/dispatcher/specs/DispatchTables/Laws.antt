@@ -23,6 +23,7 @@ use Rattle.dispatcher.specs.DispatchTables.Masks.{able_after, live_mask_after, a
 use Rattle.dispatcher.specs.DispatchTables.Delivery.{Delivery, DeliveryIs, GoesOn, Noted, NotedIs, none_noted, noted_gone, due_kept}
 use Rattle.dispatcher.specs.DispatchTables.Silent.{is_silent, is_no_op}
 use Rattle.dispatcher.specs.DispatchTables.Dues.{due_moment, due_in, due_pair, anrs_in, is_named}
+use Rattle.dispatch_history.specs.History.{no_terms}
 
 -- The effects of a legal history are lawful, and so is the empty list.
 abbrev pub LawfulEffects : Type 0
@@ -61,11 +62,11 @@ KeptReady =
     → let now = clock (past_of (step displays call answer es)) in
     NoneAfter now (enqueued_all bodies now (with_part (part_of call answer c) s)).unfinished
 
--- A channel that was never opened is kept as one without messages and without a limit.
+-- A channel that was never opened is kept as one without messages and without terms.
 abbrev pub KeptUnopened : Type 0
 KeptUnopened =
     (displays : List ℕ) (es : List Effect) (c : ℕ)
-    → Lawful displays es → opened (past_of es) < c → Holds es c (opened_with 0)
+    → Lawful displays es → opened (past_of es) < c → Holds es c (opened_with no_terms)
 
 -- A channel that is sent nothing and has no part in a step is kept as it was.
 abbrev pub KeptQuiet : Type 0

@@ -17,7 +17,7 @@ is_silent (Tick now) (Named mask) c = not (mask_has mask c)
 is_silent (Pilfer now channel device) Done c = false
 is_silent (Pilfer now channel device) answer c = true
 is_silent (Remove now channel) Gone c = true
-is_silent (Open limit) Full c = true
+is_silent (Open terms) Full c = true
 is_silent call answer c = false
 
 -- A notify, a refused call, a pump with nothing to dispatch and a receive of nothing leave all channels as they are.
@@ -32,5 +32,5 @@ is_no_op (Pilfer now channel device) Done = false
 is_no_op (Pilfer now channel device) answer = true
 is_no_op (Pump now) Idle = true
 is_no_op (Remove now channel) Gone = true
-is_no_op (Open limit) Full = true
+is_no_op (Open terms) Full = true
 is_no_op call answer = false

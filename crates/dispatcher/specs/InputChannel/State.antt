@@ -5,11 +5,12 @@ use Rattle.input_types.specs.declared.message.Body.{Body}
 use Rattle.input_types.specs.declared.message.Message.{Message}
 use Rattle.dispatcher.specs.declared.input_channel.unfinished.Unfinished.{Unfinished}
 use Rattle.dispatcher.specs.InputChannel.Order.{delivered, has_seq, without, Within, IsInOrder}
+use Rattle.dispatch_calls.specs.declared.terms.Terms.{Terms}
 
 -- a channel
 pub record ChannelState : Type 0 where
-  -- how long its owner may leave a message unfinished
-  pub limit : ℕ
+  -- what it was opened with
+  pub terms : Terms
   -- how many of its messages were released, the first ones
   pub gone : ℕ
   -- the others, in order
@@ -26,10 +27,10 @@ pub record ChannelState : Type 0 where
   pub spare : ℕ
 
 -- a channel without messages
-abbrev pub opened_with : ℕ → ChannelState
-opened_with limit =
+abbrev pub opened_with : Terms → ChannelState
+opened_with terms =
     record {
-      limit = limit;
+      terms = terms;
       gone = 0;
       messages = [];
       published = 0;
@@ -113,7 +114,7 @@ oldest_of s = option_map (λ u. (u.seq, u.delivery)) (slice_get s.unfinished 0)
 
 -- at this clock a message that is published and not finished has waited as long as the owner may leave it so
 abbrev pub has_late : ℕ → ChannelState → Bool
-has_late clock s = list_any (λ u. nat_le (u.delivery + s.limit) clock) s.unfinished
+has_late clock s = list_any (λ u. nat_le (u.delivery + s.terms.limit) clock) s.unfinished
 
 -- what holds of each channel
 pub record IsChannel (s : ChannelState) : Type 0 where

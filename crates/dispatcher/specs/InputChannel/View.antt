@@ -5,7 +5,7 @@ use Rattle.dispatcher.specs.InputChannel.State.{ChannelState}
 -- what a contract sees of a channel
 abbrev pub state_of : Inside → ChannelState
 state_of c = record {
-  limit = c.limit;
+  terms = c.terms;
   gone = c.kept.gone;
   messages = c.kept.messages;
   published = c.published;

@@ -8,7 +8,7 @@ use Rattle.focus_resolver.specs.Changes.{IsOnlyIn}
 use Rattle.dispatch_calls.specs.declared.call.Call.{Call}
 use Rattle.dispatch_calls.specs.declared.call.Call.TheVariants.{FocusOn}
 use Rattle.dispatch_calls.specs.declared.reply.Reply.{Reply}
-use Rattle.dispatch_history.specs.History.{History, live, clock, origin, snapshot}
+use Rattle.dispatch_history.specs.History.{History, live, clock, origin, repeats_of, snapshot}
 use Rattle.dispatch_history.specs.Focus.{focus, has_focus, is_target, key_target, focus_sent}
 use Rattle.dispatch_history.specs.Effect.{Effect, past_of}
 use Rattle.dispatch_history.specs.Effects.{step, said_at}
@@ -21,7 +21,7 @@ use Rattle.dispatch_history.specs.Keys.{keys}
 use Rattle.dispatcher.specs.DispatchTables.Lawful.{Lawful}
 use Rattle.dispatcher.specs.KeyTables.Held.{Rising, KeysAre, bodies_tracked, key_messages, target_sent}
 use Rattle.dispatcher.specs.KeyTables.Repeats.{RepeatIs, repeat_next}
-use Rattle.key_repeat.specs.Due.{Sent, due_of}
+use Rattle.key_repeat.specs.Due.{Sent, due_by}
 use Rattle.input_types.specs.declared.key.KeyMsg.{KeyMsg}
 use Rattle.input_types.specs.declared.motion.Motion.{Motion}
 use Rattle.input_types.specs.declared.message.Body.TheVariants.{Motion as MotionBody, Key}
@@ -158,7 +158,7 @@ RepeatRead =
     (displays : List ℕ) (es : List Effect) (last : Option Sent)
     → Lawful displays es
     → RepeatIs es last
-    → (due_of last ≡ repeat_due es) × ((s : Sent) → last ≡ Some s → is_target (past_of es) s.channel ≡ true)
+    → (due_by (repeats_of (past_of es)) last ≡ repeat_due es) × ((s : Sent) → last ≡ Some s → is_target (past_of es) s.channel ≡ true)
 
 -- After the key messages that the key target is sent, the last one is kept.
 abbrev pub RepeatStep : Type 0

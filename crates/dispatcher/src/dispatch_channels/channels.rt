@@ -26,7 +26,8 @@ use crate::dispatch_channels::noted::Anrs;
 use crate::dispatch_channels::publishing::{able_after, finish_one, publish_all};
 use crate::dispatch_channels::tracked::track;
 use crate::input_channel::{Channel, UnknownSeq};
-use input_types::{Body, Limit, Message, Moment, Motion, Pixel};
+use dispatch_calls::Terms;
+use input_types::{Body, Message, Moment, Motion, Pixel};
 use std::alloc::{AllocError, Global};
 use std::marker::Model;
 use window_snapshot::{mask_has, mask_with};
@@ -106,10 +107,10 @@ impl Channels {
         self.able
     }
 
-    /// Opens a channel, which is live and able and has room for one message. Returns its number; None exactly if 64
-    /// were opened. If memory runs out, nothing changes.
-    pub fn open(&mut self, limit: Limit) -> Result<Option<u32>, AllocError>
-        ensures ok { IfOk result (λ number. OpensOrNot limit number self.old self.new) }
+    /// Opens a channel on these terms, which is live and able and has room for one message. Returns its number; None
+    /// exactly if 64 were opened. If memory runs out, nothing changes.
+    pub fn open(&mut self, terms: Terms) -> Result<Option<u32>, AllocError>
+        ensures ok { IfOk result (λ number. OpensOrNot terms number self.old self.new) }
         ensures err { OnErr result (self.new ≡ self.old) }
         ensures full { opened self.old ≡ 64 → IsOk result }
     {
@@ -119,7 +120,7 @@ impl Channels {
         self.channels.reserve(1)?;
         self.inputs.reserve(1)?;
         let alloc = *self.channels.allocator();
-        let mut channel = Channel::new(alloc, limit);
+        let mut channel = Channel::new(alloc, terms);
         channel.reserve(1)?;
         let mut input = InputState::new(alloc);
         input.reserve(1)?;

@@ -24,7 +24,7 @@ impl Dispatcher {
         ensures pumps { is_input call.now ≡ true → self.old.queue.pumps ≤ self.new.queue.pumps + 1 }
     {
         match call {
-            Call::Open { limit } => self.open(*limit),
+            Call::Open { terms } => self.open(*terms),
             Call::Windows { now, snapshot } => self.show(*now, snapshot),
             Call::FocusOn {
                 now,

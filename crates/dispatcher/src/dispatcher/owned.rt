@@ -8,21 +8,21 @@ use super::Dispatcher;
 use crate::focusing::open;
 use crate::outcome::Outcome;
 use crate::owners::{finish, receive, remove};
-use dispatch_calls::Reply;
-use input_types::{Limit, Moment};
+use dispatch_calls::{Reply, Terms};
+use input_types::Moment;
 use std::alloc::AllocError;
 
 impl Dispatcher {
-    /// Opens a channel, whose messages must be finished within the limit. Out of memory changes nothing.
-    pub fn open(&mut self, limit: Limit) -> Result<Reply, AllocError>
-        ensures ok { IfOk result (λ answer. Answers (Open limit) answer self.old self.new) }
+    /// Opens a channel on these terms. Out of memory changes nothing.
+    pub fn open(&mut self, terms: Terms) -> Result<Reply, AllocError>
+        ensures ok { IfOk result (λ answer. Answers (Open terms) answer self.old self.new) }
         ensures err { OnErr result (self.new ≡ self.old) }
     {
         self.tables.queueing.may_step()?;
         let now = Moment::zero();
         let clock = now.later(self.tables.queueing.clock());
         let place = self.tables.queueing.place();
-        let reply = open(&mut self.tables.routing, limit, place, clock)?;
+        let reply = open(&mut self.tables.routing, terms, place, clock)?;
         self.tables.queueing.go_on(now);
         Ok(reply)
     }

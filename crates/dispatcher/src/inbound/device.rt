@@ -3,6 +3,7 @@ ghost use Rattle.std.specs.Prelude.{◌≡◌, length, IfOk};
 ghost use Rattle.std.specs.Option.{option_map};
 ghost use Rattle.bits32.specs.Set.{members};
 ghost use Rattle.input_types.specs.DeviceRule.{is_of_device, nothing_down};
+ghost use Rattle.dispatcher.specs.Down.{IsFirstDown};
 ghost use Rattle.dispatcher.specs.InboundArgs.Down.{state_of, changed, Plans, own_after};
 
 use crate::inbound::change::{Becomes, Inconsistent};
@@ -71,6 +72,13 @@ impl DeviceDown {
             scan: key.scan,
             down: key.down,
         })
+    }
+
+    /// The first key that is down, from a scan code on.
+    pub(crate) fn first_key(&self, from: u32) -> Option<u16>
+        ensures { IsFirstDown (state_of self.now).keys from result }
+    {
+        self.keys.first(from)
     }
 
     /// The answer to args that may not come.

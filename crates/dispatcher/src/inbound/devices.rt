@@ -1,7 +1,8 @@
 //! What is down on each device.
 ghost use Rattle.std.specs.Prelude.{◌≡◌, ◌-◌, ◌<◌, ◌≤◌, [], length, IfOk};
 ghost use Rattle.input_types.specs.DeviceRule.{device_of};
-ghost use Rattle.dispatcher.specs.InboundArgs.Down.{PlansAt, Changes, DevicesStandFor};
+ghost use Rattle.dispatcher.specs.Down.{IsFirstDown};
+ghost use Rattle.dispatcher.specs.InboundArgs.Down.{PlansAt, Changes, DevicesStandFor, state_at};
 
 use crate::inbound::change::{Change, Inconsistent};
 use crate::inbound::device::DeviceDown;
@@ -46,6 +47,13 @@ impl DevicesDown {
             Ok(becomes) => Ok(Change { device, becomes }),
             Err(refused) => Err(refused),
         }
+    }
+
+    /// The first key that is down on a device, from a scan code on.
+    pub fn first_key(&self, device: DeviceId, from: u32) -> Option<u16>
+        ensures { IsFirstDown (state_at self.now device).keys from result }
+    {
+        self.devices[row(device)].first_key(from)
     }
 
     /// Changes what is down. Takes no memory.

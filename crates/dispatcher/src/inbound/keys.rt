@@ -1,6 +1,7 @@
 //! The keys that are down on one device.
-ghost use Rattle.std.specs.Prelude.{◌≡◌, ℕ, false, replicate, IfOk};
+ghost use Rattle.std.specs.Prelude.{◌≡◌, ◌<◌, ◌/◌, ℕ, false, replicate, slice_index_or, IfOk};
 ghost use Rattle.input_types.specs.DeviceRule.{with_key};
+ghost use Rattle.dispatcher.specs.Down.{IsFirstDown};
 ghost use Rattle.dispatcher.specs.InboundArgs.Keys.{has_key};
 
 use bits32::Bits32;
@@ -38,6 +39,32 @@ impl KeysDown {
         ensures { result ≡ has_key self.now scan }
     {
         self.sets[usize::from(scan / 32)].has((scan % 32) as u8)
+    }
+
+    /// The set with the 32 scan codes of this one.
+    fn set_of(&self, code: u32) -> Bits32
+        requires { code < 65536 }
+        ensures { result ≡ slice_index_or self.now (code / 32) 0 }
+    {
+        self.sets[(code / 32) as usize]
+    }
+
+    /// The first key that is down, from a scan code on. A set without a key is passed over at once.
+    pub(crate) fn first(&self, from: u32) -> Option<u16>
+        ensures { IsFirstDown (has_key self.now) from result }
+    {
+        let mut code = from;
+        'codes: while code < 65_536 {
+            let set = self.set_of(code);
+            if set.bits() == 0 {
+                code = (code / 32 + 1) * 32;
+            } else if set.has((code % 32) as u8) {
+                return Some(code as u16);
+            } else {
+                code += 1;
+            }
+        }
+        None
     }
 
     /// Marks the key with a scan code as down or as up.

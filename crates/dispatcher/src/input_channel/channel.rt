@@ -13,7 +13,9 @@ mod releasing;
 use crate::input_channel::kept::Kept;
 use crate::input_channel::unfinished::{MOST, Unfinished, deliver, place_of};
 use arrayvec::ArrayVec;
+use dispatch_calls::Terms;
 use input_types::{Body, DeviceId, KeyMsg, Limit, Message, Moment, Pixel, Pointers};
+use key_repeat::Repeats;
 use std::alloc::{AllocError, Global};
 use std::marker::Model;
 
@@ -24,7 +26,7 @@ pub struct UnknownSeq;
 /// The messages to one window. They are numbered from 1 in the order in which they were enqueued.
 #[derive(Drop)]
 pub struct Channel {
-    limit: Limit,
+    terms: Terms,
     kept: Kept,
     published: u64,
     received: u64,
@@ -45,12 +47,12 @@ impl Model for Channel {
 }
 
 impl Channel {
-    /// A channel without messages, whose owner may leave a message unfinished for this long.
-    pub fn new(alloc: Global, limit: Limit) -> Channel
-        ensures { result ≡ opened_with limit }
+    /// A channel without messages that is opened on these terms.
+    pub fn new(alloc: Global, terms: Terms) -> Channel
+        ensures { result ≡ opened_with terms }
     {
         Channel {
-            limit,
+            terms,
             kept: Kept::new(alloc),
             published: 0,
             received: 0,
@@ -61,9 +63,16 @@ impl Channel {
 
     /// How long the owner may leave a message unfinished.
     pub fn limit(&self) -> Limit
-        ensures { result ≡ self.now.limit }
+        ensures { result ≡ self.now.terms.limit }
     {
-        self.limit
+        self.terms.limit
+    }
+
+    /// When a key that the window holds is repeated; None if never.
+    pub fn repeats(&self) -> Option<Repeats>
+        ensures { result ≡ self.now.terms.repeats }
+    {
+        self.terms.repeats
     }
 
     /// The messages that were not released.
@@ -270,7 +279,7 @@ impl Channel {
         ensures { result ≡ has_late clock self.now }
     {
         match self.unfinished.as_slice().first() {
-            Some(oldest) => oldest.delivery.get() + self.limit.get() <= clock.get(),
+            Some(oldest) => oldest.delivery.get() + self.terms.limit.get() <= clock.get(),
             None => false,
         }
     }

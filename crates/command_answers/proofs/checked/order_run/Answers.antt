@@ -32,8 +32,8 @@ returns-in-Ok-clause-ok c = λ p past planned is.
     subst (λ (r : Plan). Follows r lines (Ok c.in-Ok.run')) (same_plan c.args.planned.plan all p past planned.script is) c.in-Ok.ensures in
     let es = run (device_displays p.devices) (reverse follows.0) in
     let channels : List ChannelPlan = c.args.planned.channels.items in
-    let many : length c.deref.result.now ≡ length (map channel_of p.channels) =
-    ap length c.deref.ensures.value ∙ sym (length-map channels channel_view) ∙ ap length planned.channels ∙ sym (length-map p.channels channel_of) in
+    let many : length c.deref.result.now ≡ length (map (channel_of p.repeats) p.channels) =
+    ap length c.deref.ensures.value ∙ sym (length-map channels channel_view) ∙ ap length planned.channels ∙ sym (length-map p.channels (channel_of p.repeats)) in
     let text = c.in_ok-text_of-in-Ok.ensures (run_of p past) es follows.2 follows.3 many
     ∙ ap (λ (cs : List ChannelPlan). streams_text (map (λ d. d.name) (map channel_view cs)) es) c.deref.ensures.value
     ∙ ap (λ (cs : List ChannelData). streams_text (map (λ d. d.name) cs) es) planned.channels in

@@ -20,6 +20,6 @@ returns c =
       few = c.requires.few_channels;
       channels = refl;
       script = same_script session run c.device_displays.ensures
-          (c.in_ok-run_channels.ensures.value ∙ ap (λ (cs : List ChannelPlan). map channel_of (map channel_view cs)) c.deref.ensures.value)
+          (c.in_ok-run_channels.ensures.value ∙ ap (λ (cs : List ChannelPlan). map (channel_of session.repeats) (map channel_view cs)) c.deref.ensures.value)
           c.in_ok-run_steps.ensures.value refl;
     }

@@ -9,7 +9,7 @@ use Rattle.command_answers.proofs.plan.run_channels.Given as goal
 abbrev pub invariant-loop-channel : goal.invariant-loop-channel
 invariant-loop-channel l =
     record {
-      rest : map run_channel l.all.items ++ map channel_of (map channel_view (drop l.channel-index l.channels)) ≡ map channel_of (map channel_view l.channels);
+      rest : map run_channel l.all.items ++ map (channel_of l.repeats) (map channel_view (drop l.channel-index l.channels)) ≡ map (channel_of l.repeats) (map channel_view l.channels);
       len : length l.all.items ≡ l.channel-index;
       valid : All IsChannel l.all.items;
     }

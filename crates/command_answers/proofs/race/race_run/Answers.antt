@@ -19,11 +19,11 @@ returns-clause-ok g c = λ past is.
     let all = c.args.all.items in
     let end = c.in_ok-end.end in
     let few : length (given p past) ≤ 20000 = omega (arith, c.if-len-gt-GIVEN_LIMIT.false, c.len.ensures, length-map all cooked_of, ap length is) in
-    let begun : EndsRace (raced_plan c.device_displays-displays.result c.deref.result.now session.steps.items all session.end) end = c.in_ok-end.ensures.race session.end in
-    let shown : EndsRace (raced_plan c.device_displays-displays.result session.channels.items session.steps.items all session.end) end =
-    subst (λ (cs : List ChannelPlan). EndsRace (raced_plan c.device_displays-displays.result cs session.steps.items all session.end) end) c.deref.ensures.value begun in
+    let begun : EndsRace (raced_plan c.device_displays-displays.result session.repeats c.deref.result.now session.steps.items all session.end) end = c.in_ok-end.ensures.race session.end in
+    let shown : EndsRace (raced_plan c.device_displays-displays.result session.repeats session.channels.items session.steps.items all session.end) end =
+    subst (λ (cs : List ChannelPlan). EndsRace (raced_plan c.device_displays-displays.result session.repeats cs session.steps.items all session.end) end) c.deref.ensures.value begun in
     let placed : EndsRace (record (script_of p) { cooked = map cooked_of all }) end =
-    subst (λ (ds : List ℕ). EndsRace (raced_plan ds session.channels.items session.steps.items all session.end) end) c.device_displays-displays.ensures shown in
+    subst (λ (ds : List ℕ). EndsRace (raced_plan ds session.repeats session.channels.items session.steps.items all session.end) end) c.device_displays-displays.ensures shown in
     let ends : EndsRace (run_of p past) end = subst (λ (cs : List Cooked). EndsRace (record (script_of p) { cooked = cs }) end) is placed in
     let names : names_in c.deref-2.result.now ≡ names_of p = ap names_in c.deref-2.ensures.value in
     let text : c.of.result ≡ race_output (names_of p) end.script_seats.items end.core =

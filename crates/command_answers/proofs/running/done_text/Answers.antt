@@ -16,8 +16,8 @@ returns c = record {
   ok = λ p past same completed.
       let how = lines_of c.args.sending
       in let within = is_within how (script_of p) completed.es c.args.schedule.now completed.ready (sym c.is_too_long.ensures.over ∙ c.if-is_too_long.false)
-      in let many : length c.args.channels.now ≡ length (map channel_of p.channels)
-      = sym (length-map c.args.channels.now channel_view) ∙ ap length same ∙ sym (length-map p.channels channel_of)
+      in let many : length c.args.channels.now ≡ length (map (channel_of p.repeats) p.channels)
+      = sym (length-map c.args.channels.now channel_view) ∙ ap length same ∙ sym (length-map p.channels (channel_of p.repeats))
       in let whole = subst (λ (ds : List ℕ). AreWhole ds completed.es) completed.ready.has.displays_are
       (lawful_whole c.args.schedule.now.dispatcher.displays completed.es completed.ready.has.stands.lawful completed.ready.has.stands.rise)
       in comes_to c.args.sending p past completed.es (map channel_view c.args.channels.now) _ (completed.ordered within) within whole same

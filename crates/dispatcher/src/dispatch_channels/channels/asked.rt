@@ -1,5 +1,5 @@
 //! What can be asked about the channels.
-ghost use Rattle.std.specs.Prelude.{◌≡◌, true};
+ghost use Rattle.std.specs.Prelude.{◌≡◌, true, None, nat_le, if◌then◌else◌};
 ghost use Rattle.window_snapshot.specs.Mask.{is_channel};
 ghost use Rattle.dispatcher.specs.AnrTracker.Due.{IsFirst};
 ghost use Rattle.dispatcher.specs.InputChannel.State.{oldest_of};
@@ -10,6 +10,7 @@ use crate::cancel_synthesis::InputState;
 use crate::dispatch_channels::channels::Channels;
 use dispatch_calls::{Anr, Counts};
 use input_types::{Message, Moment};
+use key_repeat::Repeats;
 use window_snapshot::mask_has;
 
 impl Channels {
@@ -45,6 +46,18 @@ impl Channels {
         ensures { IsFirst (due_moment self.now) result }
     {
         self.tracker.first_due()
+    }
+
+    /// When a key that the window of a channel holds is repeated; None if never, or if no channel was opened with this
+    /// number.
+    pub fn repeats(&self, channel: u32) -> Option<Repeats>
+        ensures { result ≡ (if nat_le 1 channel then (channel_of self.now channel).terms.repeats else None) }
+    {
+        if channel < 1 {
+            return None;
+        }
+        let kept = self.channels.get(channel as usize - 1)?;
+        kept.repeats()
     }
 
     /// The number and the delivery of the oldest published and unfinished message of a channel; None exactly if every

@@ -17,4 +17,4 @@ invariant-channels g l =
     × ((view l.seat).setup ≡ (view l.initial.seat).setup)
     × OnlyOpens (view l.seat).mine.own
     × (length (view l.seat).mine.own ≡ l.channel-index)
-    × (calls_made (view l.seat).mine.own ≡ reverse (opens (map channel_of (map channel_view (take l.channel-index l.channels)))))
+    × (calls_made (view l.seat).mine.own ≡ reverse (opens (map (channel_of l.repeats) (map channel_view (take l.channel-index l.channels)))))

@@ -14,7 +14,7 @@ use Rattle.why_lines.proofs.steps.open.Goals as goal
 pub returns-clause-known : goal.returns-clause-known
 returns-clause-known c es st =
     let ds = c.args.dispatcher.now.displays in
-    let call = Open c.args.limit in
+    let call = Open c.args.terms in
     let text = c.args.lines.now.items in
     let t = c.later-clock.result in
     let later = c.take_step.new.dispatcher in

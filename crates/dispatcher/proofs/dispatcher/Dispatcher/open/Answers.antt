@@ -13,7 +13,7 @@ open-requires c =
 
 pub returns-clause-ok : goal.returns-clause-ok
 returns-clause-ok c =
-    passed c.self.inside.tables c.go_on.new.self c.open.new.routing c.args.self.now c.self.view_is (λ now. Open c.args.limit) c.in_ok-reply.reply c.zero-now.result c.place-place.result c.later-clock.result
+    passed c.self.inside.tables c.go_on.new.self c.open.new.routing c.args.self.now c.self.view_is (λ now. Open c.args.terms) c.in_ok-reply.reply c.zero-now.result c.place-place.result c.later-clock.result
     refl
     c.zero-now.ensures
     (c.later-clock.ensures ∙ ap (λ n. max c.zero-now.result n) c.clock.ensures)
@@ -23,7 +23,7 @@ returns-clause-ok c =
 
 pub invariant_of-self-2 : goal.invariant_of-self-2
 invariant_of-self-2 c =
-    passed_holds c.self.inside.tables c.go_on.new.self c.open.new.routing c.self.invariant.0 (λ now. Open c.args.limit) c.in_ok-reply.reply c.zero-now.result c.place-place.result c.later-clock.result
+    passed_holds c.self.inside.tables c.go_on.new.self c.open.new.routing c.self.invariant.0 (λ now. Open c.args.terms) c.in_ok-reply.reply c.zero-now.result c.place-place.result c.later-clock.result
     refl
     c.zero-now.ensures
     (c.later-clock.ensures ∙ ap (λ n. max c.zero-now.result n) c.clock.ensures)

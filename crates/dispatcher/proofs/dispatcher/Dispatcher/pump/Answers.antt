@@ -1,4 +1,4 @@
-use Rattle.std.proofs.Common.{◌≡◌, ◌≤◌, ◌+◌, not, is_some, slice_get, true, sym, ap, ◌∙◌, subst}
+use Rattle.std.proofs.Common.{◌≤◌, ◌+◌, not, is_some, sym, ap, ◌∙◌, subst}
 use Rattle.std.proofs.lemmas.Bool.{true≢false}
 use Rattle.dispatch_calls.specs.declared.call.Call.TheVariants.{Pump}
 use Rattle.dispatch_calls.specs.declared.reply.Reply.TheVariants.{Dispatched}

@@ -2,7 +2,7 @@ use Rattle.std.proofs.lemmas.Bool.{true≢false}
 use Rattle.dispatch_calls.specs.declared.call.Call.TheVariants.{Remove}
 use Rattle.dispatcher.proofs.Made.Answered.{passed, passed_holds, counted}
 use Rattle.dispatcher.specs.Outcomes.{reply_of}
-use Rattle.std.proofs.Common.{max, refl, ap, ◌∙◌, sym}
+use Rattle.std.proofs.Common.{max, refl, sym}
 use Rattle.dispatcher.proofs.dispatcher.Dispatcher.remove.Goals as goal
 
 pub returns-clause-ok : goal.returns-clause-ok

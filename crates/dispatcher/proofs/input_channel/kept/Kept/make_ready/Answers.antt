@@ -1,4 +1,4 @@
-use Rattle.std.proofs.Common.{◌≡◌, ◌≤◌, max, ap, ◌∙◌, arith}
+use Rattle.std.proofs.Common.{◌≡◌, max, ap, ◌∙◌, arith}
 use Rattle.dispatcher.specs.InputChannel.Kept.{KeptState}
 use Rattle.dispatcher.proofs.input_channel.kept.Kept.make_ready.Goals as goal
 
