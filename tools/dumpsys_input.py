@@ -19,6 +19,7 @@ MONITOR = re.compile(r"\s*\d+: '(.*)',?\s*")
 DISPLAY = re.compile(r"\s*Display: (\d+)\s*")
 HUB_DEVICE = re.compile(r"\s*(-?\d+): (.*)")
 HUB_PATH = re.compile(r"\s*Path: (/\S+)\s*")
+REPEAT = re.compile(r"\s*KeyRepeat(?P<which>Timeout|Delay): (?P<ms>\d{1,6})(?:\.(?P<us>\d{1,3})\d*)?ms\s*")
 READER_DEVICE = re.compile(r"\s*(?:Device (-?\d+): .*|EventHub Devices: \[([-\d ]*)\]\s*)")
 
 # The bits of Android's window flags and input features before Android 13 that say who gets a touch or a key.
@@ -66,11 +67,13 @@ class Window:
 
 
 class Dump:
-    """What one dump tells. Displays have Android's numbers. `sizes` are extents of displays as they are turned."""
+    """What one dump tells. Displays have Android's numbers. `sizes` are extents of displays as they are turned. `repeat_us` has the
+    microseconds from a key's down to its first repeat at "Timeout", and from each repeat to the next at "Delay"."""
 
     def __init__(self):
         self.viewports, self.sizes, self.windows, self.monitors = {}, {}, [], []
         self.focus, self.focused_display, self.device_displays = {}, None, {}
+        self.repeat_us = {}
 
 
 def rectangles(text):
@@ -129,7 +132,7 @@ class Reader:
             self.window(window)
         elif viewport:
             self.viewport(viewport)
-        elif not (self.matrix(line) or self.monitor(line) or self.focused(line)):
+        elif not (self.repeat(line) or self.matrix(line) or self.monitor(line) or self.focused(line)):
             self.device(line)
             self.extent(line)
 
@@ -150,6 +153,13 @@ class Reader:
             self.dump.viewports.setdefault(display, told)
             for device in self.devices:
                 self.dump.device_displays[device] = display
+
+    def repeat(self, line):
+        """A delay of held keys."""
+        found = REPEAT.fullmatch(line)
+        if found:
+            self.dump.repeat_us[found["which"]] = int(found["ms"]) * 1000 + int((found["us"] or "").ljust(3, "0"))
+        return bool(found)
 
     def matrix(self, line):
         """The transform of the window above, and its rows."""

@@ -4,7 +4,7 @@ from collections import Counter
 from .laws import FOCUS, KEY, need
 from .recording import DROPPED, SYN, Down, read
 from .recording import KEY as KEY_EVENT
-from .replayed import REPEAT_FIRST, REPEAT_NEXT, removals
+from .replayed import delay_after, removals
 from .replays import last_moment
 
 
@@ -52,16 +52,21 @@ def keyed(_, case, told):
 
 
 def repeated(case, told, events, busy):
-    """The last key that was told, as a down, is told again after its time, where no key, step or naming comes first."""
+    """The last key that was told, as a down, is told again after its time, where no key, step or naming comes first, and never where the
+    session repeats no key."""
     busy = sorted(busy | {int(text.split(" ")[1]) for text in told[1]})
     keys = sorted((int(text.split(" ")[1]), c[0], text) for c in told[0] for text in c[2] if KEY.fullmatch(text))
+    if not case.repeats:
+        for _, number, text in keys:
+            need(KEY.fullmatch(text).group(8) in (None, "0"), "channel %d is told a repeat: %s" % (number, text))
+        return
     times = Counter(moment for moment, _, _ in keys)
     end = last_moment(case, told)
     for k, (moment, number, text) in enumerate(keys):
         match = KEY.fullmatch(text)
         if match.group(8) is None or times[moment] > 1:
             continue
-        due = moment + (REPEAT_FIRST if match.group(8) == "0" else REPEAT_NEXT)
+        due = moment + delay_after(case, int(match.group(8)))
         if due > end or any(moment < at <= due for at in busy) or moment in {step[0] for step in case.steps}:
             continue
         after = keys[k + 1] if k + 1 < len(keys) else (0, 0, "")

@@ -75,6 +75,7 @@ class Case:
         # Windows that lie apart and have no flags.
         self.apart = self.random.random() < 0.25
         self.make_session()
+        self.make_repeats()
         self.make_recording()
         self.session = self.session_text(self.steps).encode()
         self.recording = "".join(self.lines).encode()
@@ -117,6 +118,16 @@ class Case:
         self.end = 0 if self.plain else rng.choice((0, 0, 3000000))
         windows = [window for step in self.steps if step[2] == "windows" for window in step[3]]
         self.spies = any("SPY" in window[3] for window in windows)
+
+    def make_repeats(self):
+        """When held keys are repeated: the two delays, and whether any key is. More than half of the sessions say nothing of it."""
+        rng = self.drawn("repeats")
+        self.repeat_us, self.repeats = (500000, 50000), True
+        self.says_delays = not self.plain and rng.random() < 0.4
+        if self.says_delays:
+            self.repeat_us = rng.choice((1000, 8000, 60000, 660000, 600000000)), rng.choice((20000, 40000, 60000, 700000, 600000000))
+        if not self.plain and rng.random() < 0.2:
+            self.repeats = False
 
     def make_devices(self):
         rng = self.random
@@ -175,6 +186,8 @@ class Case:
     def session_text(self, steps):
         width, height, turned = self.displays[0]
         text = "[display]\nwidth = %d\nheight = %d\nrotation = %d\n" % (width, height, turned)
+        text = ("repeat = false\n" if not self.repeats else "") + text
+        text = ("repeat_us = [%d, %d]\n" % self.repeat_us if self.says_delays else "") + text
         text = ("end_us = %d\n" % self.end if self.end else "") + text
         for display in self.displays[1:]:
             text += "\n[[extra_display]]\nwidth = %d\nheight = %d\nrotation = %d\n" % display

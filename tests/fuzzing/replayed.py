@@ -4,8 +4,6 @@ from .laws import FOCUS, KEY, MOTION, Owner, need, sections
 from .recording import KEY as KEY_EVENT
 from .recording import DROPPED, REPORT, SYN, down_after
 
-REPEAT_FIRST, REPEAT_NEXT = 500000, 50000
-
 
 def removals(steps):
     """The moment at which each removed channel is removed first."""
@@ -20,6 +18,11 @@ def named_so(case, told):
     """The channels are those of the session, in its order."""
     wanted = [(number, channel[0]) for number, channel in enumerate(case.channels, 1)]
     need([c[:2] for c in told[0]] == wanted, "the channels are not those of the session")
+
+
+def delay_after(case, repeat):
+    """How long after a down with this repeat number the next repeat is told."""
+    return case.repeat_us[0 if repeat == 0 else 1]
 
 
 class Sources:
@@ -37,6 +40,7 @@ class Sources:
             if kind == KEY_EVENT:
                 self.keys.setdefault((path, code, value), set()).add(moment)
         self.paths = [device[1] for device in case.devices]
+        self.case = case
         self.steps = {step[0] for step in steps if step[2] != "remove"}
         self.focus = {step[0] for step in steps if step[2] in ("windows", "focus")}
 
@@ -59,7 +63,7 @@ class Sources:
         if key.group(8) == "0":
             return at in self.keys.get((path, scan, 1), ())
         before = owner.keys.get(key.group(3, 4), (0, 0))[1]
-        return at == before + (REPEAT_FIRST if key.group(8) == "1" else REPEAT_NEXT)
+        return self.case.repeats and at == before + delay_after(self.case, int(key.group(8)) - 1)
 
 
 def held_by(number, messages, names, sources, removed):

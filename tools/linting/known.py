@@ -1,6 +1,6 @@
 """The names that a session may have, after docs/SESSION.md."""
 
-DOCUMENT = ("display", "extra_display", "end_us", "device", "channel", "step")
+DOCUMENT = ("display", "extra_display", "end_us", "repeat_us", "repeat", "device", "channel", "step")
 DISPLAY = ("width", "height", "rotation")
 DEVICE = {"touch": ("kind", "path", "display", "slots", "x", "y"), "keys": ("kind", "path", "layout")}
 CHANNEL = ("name", "limit_ms", "finish_after_us", "finishes")
@@ -27,6 +27,7 @@ KEY_NAMES = frozenset(
 LEAST_32, GREATEST_32 = -(2**31), 2**31 - 1
 LATEST_US = 10**18
 LONGEST_FINISH_US = 10**15
+SHORTEST_DELAY_US, LONGEST_DELAY_US = 1000, 600000000
 MOST_STEPS = 100000
 LONGEST_SESSION = 4 << 20
 LONGEST_RECORDING = 32 << 20

@@ -62,6 +62,11 @@ def paths(findings, plan):
             findings.warning(device.node.get("path").at, device.name + ".path", message)
 
 
+def repeats(findings, plan):
+    if plan.document.get("repeat", True) is False and "repeat_us" in plan.document.said:
+        findings.warning(plan.document.at("repeat_us"), "repeat_us", "no key is repeated where repeat is false")
+
+
 def times(findings, plan):
     for channel in plan.channels:
         if channel.get("finishes", True) is False:
@@ -159,5 +164,5 @@ def focus(findings, plan):
 
 def judge(findings, plan):
     unread_keys(findings, plan)
-    for part in (entries, paths, times, regions, covering.large, covering.covered, spies, removals, focus):
+    for part in (entries, paths, repeats, times, regions, covering.large, covering.covered, spies, removals, focus):
         part(findings, plan)

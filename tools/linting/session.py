@@ -13,6 +13,10 @@ class Judge(Reading):
         for extra in self.tables(document, "extra_display", 3):
             self.display(extra)
         self.number(document, "end_us", 0, known.LATEST_US)
+        self.delays(document)
+        node = document.node.get("repeat")
+        if node is not None and self.has_kind(document, "repeat", node, "truth", "true or false"):
+            document.said["repeat"] = node.value
         for k, device in enumerate(self.tables(document, "device", 8), 1):
             self.device(device, k)
         for channel in self.tables(document, "channel", 64):
@@ -24,6 +28,21 @@ class Judge(Reading):
             message = "%d steps, and at most %d are run" % (len(steps.value), known.MOST_STEPS)
             self.findings.error(steps.value[known.MOST_STEPS].at, "step", message, "too long: steps")
         return self.plan
+
+    def delays(self, document):
+        """When a held key is repeated."""
+        node = document.node.get("repeat_us")
+        if node is None or not self.has_kind(document, "repeat_us", node, "array", "[first, next]"):
+            return
+        if [inner.kind for inner in node.value] != ["integer", "integer"]:
+            self.wrong(document, "repeat_us", "two integers are wanted, [first, next]", node.at)
+            return
+        for inner in node.value:
+            if not known.SHORTEST_DELAY_US <= inner.value <= known.LONGEST_DELAY_US:
+                message = "%d is out of its range, which is %d to %d" % (inner.value, known.SHORTEST_DELAY_US, known.LONGEST_DELAY_US)
+                self.out_of_range(document, "repeat_us", inner.value, message, inner.at)
+                return
+        document.said["repeat_us"] = tuple(inner.value for inner in node.value)
 
     def display_zero(self, document):
         node = self.node_at(document, "display")

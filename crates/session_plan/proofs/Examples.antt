@@ -1,5 +1,5 @@
 -- Parts of sessions, worked out from their tables.
-use Rattle.std.specs.Prelude.{ℕ, ◌+◌, ◌≡◌, codes, pos, Bool, true, false, List, [], ◌∷◌, None, Result, Ok, Err, refl}
+use Rattle.std.specs.Prelude.{ℕ, ◌+◌, ◌≡◌, codes, pos, negsuc, Bool, true, false, List, [], ◌∷◌, Some, None, Result, Ok, Err, refl}
 use Rattle.std.specs.Fmt.{digits}
 use Rattle.bitflags.specs.Sets.{find_row}
 use Rattle.toml.specs.Data.{Data, string, integer, boolean, array, table, no_members, member}
@@ -22,6 +22,7 @@ use Rattle.session_plan.specs.Order.{in_order}
 use Rattle.session_plan.specs.Plan.{ChannelData}
 use Rattle.session_plan.specs.Reading.{number, number_at, number_or, tables, tables_at, text_at}
 use Rattle.session_plan.specs.Rectangles.{rect_of, rectangle, region_at}
+use Rattle.session_plan.specs.Repeats.{delays_at, delays_of, is_repeated_at, repeats_at}
 use Rattle.session_plan.specs.Session.{plan_of}
 use Rattle.session_plan.specs.Steps.{act_of, focus_of, step_of, steps_of}
 use Rattle.session_plan.specs.Trust.{occlusion_at}
@@ -106,6 +107,83 @@ reversed_axis = refl
 pub long_axis : axis_at 1 (codes "x") (table (member (codes "x") (integers (integer (pos 4) ∷ integer (pos 5000000000) ∷ [])) no_members)) ≡ Err (out_of_range (codes "device[1].x") (pos 5000000000))
 unfolding axis_at key_of digits
 long_axis = refl
+
+-- repeat_us = ..
+abbrev pub held : Data → Data
+held delays = table (member (codes "repeat_us") delays no_members)
+
+-- repeat_us = .. of these integers
+abbrev pub held_for : List Data → Data
+held_for delays = held (integers delays)
+
+-- a session that does not say when held keys are repeated has Android's half a second and twentieth of a second
+pub repeats_by_default : repeats_at (table no_members) ≡ Ok (Some (record { first = 500000; next = 50000 }))
+unfolding repeats_at delays_at is_repeated_at
+repeats_by_default = refl
+
+pub own_delays : repeats_at (held_for (integer (pos 660000) ∷ integer (pos 40000) ∷ [])) ≡ Ok (Some (record { first = 660000; next = 40000 }))
+unfolding repeats_at delays_at delays_of is_repeated_at
+own_delays = refl
+
+-- the shortest delay and the longest, a millisecond and ten minutes
+pub outermost_delays : repeats_at (held_for (integer (pos 1000) ∷ integer (pos 600000000) ∷ [])) ≡ Ok (Some (record { first = 1000; next = 600000000 }))
+unfolding repeats_at delays_at delays_of is_repeated_at
+outermost_delays = refl
+
+pub delay_too_short : repeats_at (held_for (integer (pos 660000) ∷ integer (pos 999) ∷ [])) ≡ Err (out_of_range (codes "repeat_us") (pos 999))
+unfolding repeats_at delays_at delays_of key_of
+delay_too_short = refl
+
+-- of two delays out of range the first is named
+pub delays_too_long : repeats_at (held_for (integer (pos 600000001) ∷ integer (negsuc 0) ∷ [])) ≡ Err (out_of_range (codes "repeat_us") (pos 600000001))
+unfolding repeats_at delays_at delays_of key_of
+delays_too_long = refl
+
+pub three_delays : repeats_at (held_for (integer (pos 660000) ∷ integer (pos 40000) ∷ integer (pos 40000) ∷ [])) ≡ Err (wrong (codes "repeat_us"))
+unfolding repeats_at delays_at delays_of key_of
+three_delays = refl
+
+-- a text among the delays is malformed, whatever the other one is
+pub delay_by_text : repeats_at (held_for (integer (pos 1) ∷ string (codes "40ms") ∷ [])) ≡ Err (wrong (codes "repeat_us"))
+unfolding repeats_at delays_at delays_of key_of
+delay_by_text = refl
+
+pub one_delay : repeats_at (held (integer (pos 660000))) ≡ Err (wrong (codes "repeat_us"))
+unfolding repeats_at delays_at delays_of key_of
+one_delay = refl
+
+-- repeat = ..
+abbrev pub repeat_is : Data → Data
+repeat_is value = table (member (codes "repeat") value no_members)
+
+pub no_repeats : repeats_at (repeat_is (boolean false)) ≡ Ok None
+unfolding repeats_at delays_at is_repeated_at
+no_repeats = refl
+
+pub repeats_said_aloud : repeats_at (repeat_is (boolean true)) ≡ Ok (Some (record { first = 500000; next = 50000 }))
+unfolding repeats_at delays_at is_repeated_at
+repeats_said_aloud = refl
+
+-- delays are judged although no key is repeated
+pub judged_without_repeats
+    : repeats_at (table (member (codes "repeat") (boolean false) (member (codes "repeat_us") (integers (integer (pos 0) ∷ integer (pos 40000) ∷ [])) no_members)))
+    ≡ Err (out_of_range (codes "repeat_us") (pos 0))
+unfolding repeats_at delays_at delays_of key_of
+judged_without_repeats = refl
+
+-- repeat = 0 before a device that is none: the repeats are read before the devices
+pub repeat_by_number
+    : plan_of (table (member (codes "device") (integer (pos 1)) (member (codes "display") (extent 1080 2400) (member (codes "repeat") (integer (pos 0)) no_members))))
+    ≡ Err (wrong (codes "repeat"))
+unfolding plan_of displays_of display_at extra_displays_of display_of tables_at number_at number_or number repeats_at delays_at is_repeated_at key_of
+repeat_by_number = refl
+
+-- and behind end_us
+pub end_before_repeats
+    : plan_of (table (member (codes "display") (extent 1080 2400) (member (codes "end_us") (boolean true) (member (codes "repeat_us") (integer (pos 0)) no_members))))
+    ≡ Err (wrong (codes "end_us"))
+unfolding plan_of displays_of display_at extra_displays_of display_of tables_at number_at number_or number key_of
+end_before_repeats = refl
 
 -- the first step asks for the focus on a channel that no channel is
 pub unknown_channel

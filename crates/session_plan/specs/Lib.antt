@@ -11,6 +11,7 @@ pub mod Order
 pub mod Plan
 pub mod Reading
 pub mod Rectangles
+pub mod Repeats
 pub mod Session
 pub mod Steps
 pub mod Trust

@@ -1,5 +1,6 @@
 -- What a session says: lists and numbers in place of vectors and texts.
-use Rattle.std.specs.Prelude.{ℕ, Bool, List}
+use Rattle.std.specs.Prelude.{ℕ, Bool, List, Option}
+use Rattle.key_repeat.specs.declared.delays.Repeats.{Repeats}
 use Rattle.session_plan.specs.declared.plan.DeviceKind.{DeviceKind}
 use Rattle.session_plan.specs.declared.plan.Display.{Display}
 use Rattle.session_plan.specs.declared.plan.Step.{Step}
@@ -17,10 +18,11 @@ pub record ChannelData : Type 0 where
   pub finishes : Bool
 
 -- a plan: display k is the k-th of its list, from 0, device and channel k are the k-th of theirs, from 1; end is a moment in
--- microseconds
+-- microseconds; repeats says when held keys are repeated, if they are
 pub record PlanData : Type 0 where
   pub displays : List Display
   pub devices : List DeviceData
   pub channels : List ChannelData
   pub steps : List Step
   pub end : ℕ
+  pub repeats : Option Repeats

@@ -21,4 +21,5 @@ plan_view p = record {
   channels = map channel_view p.channels.items;
   steps = p.steps.items;
   end = p.end;
+  repeats = p.repeats;
 }

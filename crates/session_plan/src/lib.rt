@@ -22,12 +22,12 @@
 //! windows = [ { channel = "main", frame = [0, 0, 1080, 2400] } ]
 //! ```
 //!
-//! is a plan with one touch device of ten slots, channel 1 named `main`, and one step at moment 0 that shows its window
-//! over the whole display. `Plan::read` gives the plan of the bytes of a file, or the first refusal with its key, such
-//! as `step[1].windows[1].frame`. Keys are read in this order: `display`, `extra_display`, `end_us`, all devices, all
-//! channels, all steps. For each key, one that has to be there and is not is `Missing`; a value of another kind, or a
-//! malformed one, is `Wrong`; a number or a count outside its range is `OutOfRange`; a name that is not known is
-//! `UnknownName`. Other keys are not looked at.
+//! is a plan with one touch device of ten slots, channel 1 named `main`, and one step at moment 0 that shows its
+//! window over the whole display. `Plan::read` gives the plan of the bytes of a file, or the first refusal with its
+//! key, such as `step[1].windows[1].frame`. Keys are read in this order: `display`, `extra_display`, `end_us`,
+//! `repeat_us`, `repeat`, all devices, all channels, all steps. For each key, one that has to be there and is not is
+//! `Missing`; a value of another kind, or a malformed one, is `Wrong`; a number or a count outside its range is
+//! `OutOfRange`; a name that is not known is `UnknownName`. Other keys are not looked at.
 //!
 //! | key | kind, and its default where it may be absent | range |
 //! |---|---|---|
@@ -36,6 +36,8 @@
 //! | `extra_display` | array of tables, none; entry k is display k, beside display 0 | at most 3 |
 //! | `extra_display[k].width`, `.height`, `.rotation` | as for `display` | as for `display` |
 //! | `end_us` | integer, 0 | 0 to 10^18 microseconds |
+//! | `repeat_us` | array of two integers, 500000 and 50000: the delays of repeats | 1000 to 600000000 microseconds |
+//! | `repeat` | truth value, true; with false no key is repeated | |
 //! | `device` | array of tables, none | at most 8 |
 //! | `device[k].kind` | text | `touch` or `keys` |
 //! | `device[k].path` | text | begins with `/`, has no space or tab, and no earlier device has it |
@@ -64,6 +66,10 @@
 //! | `step[k].channel` (pilfer, remove) | text | the name of a channel |
 //! | `step[k].device` (pilfer) | integer | 1 to the number of devices |
 //!
+//! A held key is repeated `repeat_us[0]` after it went down, and `repeat_us[1]` after each repeat. With
+//! `repeat = false` no key is repeated, for clients that repeat keys by themselves; `repeat_us` is still read and
+//! judged.
+//!
 //! A window with `wall = true` is of nobody. It has the number of its display's walls in place of a channel, and a
 //! channel that it names is `Wrong`. So are its flags if SPY, WATCH_OUTSIDE_TOUCH, SLIPPERY or PREVENT_SPLITTING is
 //! among them.
@@ -81,6 +87,7 @@ mod key;
 mod plan;
 mod reading;
 mod rectangle;
+mod repeat;
 mod session;
 mod step;
 mod trust;

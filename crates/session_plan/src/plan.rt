@@ -5,9 +5,11 @@ ghost use Rattle.session_plan.specs.View.{device_view};
 
 use input_types::{Axis, DeviceId, DisplayId, Displays, Limit, Moment, Rotation};
 use key_layout::Layout;
+use key_repeat::Repeats;
 use window_snapshot::Snapshot;
 
-/// A session: its displays, devices, channels and steps, and a time up to which it lasts at least.
+/// A session: its displays, devices, channels and steps, a time up to which it lasts at least, and the delays of its
+/// repeats.
 #[derive(Drop)]
 pub struct Plan {
     /// Display k is the k-th of these, from 0. There are 1 to 4.
@@ -23,6 +25,9 @@ pub struct Plan {
     pub steps: Vec<Step>,
 
     pub end: Moment,
+
+    /// When held keys are repeated; None if they are not, since the clients do so by themselves.
+    pub repeats: Option<Repeats>,
 }
 
 /// A display: its natural extent in pixels, each 1 to 16384, and how far it is turned.

@@ -5,7 +5,7 @@ ghost use Rattle.toml.specs.Data.{get};
 ghost use Rattle.toml.specs.View.{view};
 ghost use Rattle.session_plan.specs.Gives.{Gives};
 ghost use Rattle.session_plan.specs.Keys.{key_of};
-ghost use Rattle.session_plan.specs.Reading.{as_list, at_most, coordinate, is_table, number, number_at, number_or, required, tables, tables_at, text_at};
+ghost use Rattle.session_plan.specs.Reading.{as_list, at_most, coordinate, in_range, is_table, number, number_at, number_or, required, tables, tables_at, text_at};
 
 use crate::error::PlanError;
 use crate::key::{Place, key_text};
@@ -29,6 +29,29 @@ pub(crate) fn required<'a>(
     }
 }
 
+/// A number from low to high.
+pub(crate) fn in_range(
+    alloc: Global,
+    place: Place,
+    key: &str,
+    low: i64,
+    high: i64,
+    z: i64,
+) -> Result<u64, PlanError>
+    requires { pos 0 ≤ℤ low }
+    ensures value { Gives (λ n. n) result (in_range (key_of place key.now) low high z) }
+    ensures range { IfOk result (λ n. (low ≤ℤ pos n) × (pos n ≤ℤ high)) }
+{
+    if low <= z && z <= high {
+        Ok(z as u64)
+    } else {
+        Err(PlanError::OutOfRange {
+            key: key_text(alloc, place, key)?,
+            value: z,
+        })
+    }
+}
+
 /// An integer from low to high.
 #[tactic(auto, unfolding(crate::specs::Reading::number))]
 fn number(
@@ -48,14 +71,7 @@ fn number(
             key: key_text(alloc, place, key)?,
         });
     };
-    if low <= z && z <= high {
-        Ok(z as u64)
-    } else {
-        Err(PlanError::OutOfRange {
-            key: key_text(alloc, place, key)?,
-            value: z,
-        })
-    }
+    in_range(alloc, place, key, low, high, z)
 }
 
 /// The integer at a key, which has to be there.

@@ -14,6 +14,7 @@ use crate::error::PlanError;
 use crate::key::Place;
 use crate::plan::Plan;
 use crate::reading::number_or;
+use crate::repeat::repeats;
 use crate::step::{MAX_US, steps};
 use input_types::Moment;
 use std::alloc::Global;
@@ -48,6 +49,7 @@ fn plan(alloc: Global, document: &Value) -> Result<Plan, PlanError>
 {
     let displays = displays(alloc, document)?;
     let end = number_or(alloc, 0, Place::Document, "end_us", 0, MAX_US, document)?;
+    let repeats = repeats(alloc, document)?;
     let devices = devices(alloc, displays.len(), document)?;
     let channels = channels(alloc, document)?;
     let steps = steps(alloc, &channels, devices.len(), displays.len(), document)?;
@@ -57,6 +59,7 @@ fn plan(alloc: Global, document: &Value) -> Result<Plan, PlanError>
         channels,
         steps,
         end: Moment::new(end).unwrap(),
+        repeats,
     })
 }
 

@@ -33,3 +33,8 @@ wall_keys = refl
 -- a step that asks for the focus has no windows, and what stands in them is not looked at
 focus_windows : windows_lines 1 (table (member (codes "do") (string (codes "focus")) (member (codes "windows") (array (item window no_items)) no_members))) ≡ []
 focus_windows = refl
+
+-- what says when held keys are repeated is read, and a delay in milliseconds is not
+repeat_keys : document_lines (table (member (codes "repeat") (boolean true) (member (codes "repeat_ms") (integer (pos 500)) (member (codes "repeat_us") (integer (pos 500000)) no_members)))) ≡ codes "key repeat_ms\n"
+unfolding document_lines digits
+repeat_keys = refl

@@ -1,7 +1,8 @@
 -- A session says the same without the keys that nothing reads.
 use Rattle.std.proofs.Common.{◌≡◌, ℕ, pos, codes, Bool, true, false, if◌then◌else◌, List, [], ◌∷◌, length, Option, Some, None, option_map, Result, Ok, refl, sym, ap, ◌∙◌}
 use Rattle.std.specs.Str.{bytes_eq}
-use Rattle.toml.specs.Data.{Data, get, as_str}
+use Rattle.toml.specs.Data.{Data, get, as_bool, as_str}
+use Rattle.key_repeat.specs.Due.{android_delays}
 use Rattle.window_snapshot.specs.declared.window.Window.{Window}
 use Rattle.session_plan.specs.declared.key.Place.TheVariants as place
 use Rattle.session_plan.specs.declared.plan.Act.TheVariants as act
@@ -13,7 +14,8 @@ use Rattle.session_plan.specs.Fault.{Fault, ◌>>=◌}
 use Rattle.session_plan.specs.Keys.{key_of}
 use Rattle.session_plan.specs.Order.{in_order}
 use Rattle.session_plan.specs.Plan.{ChannelData}
-use Rattle.session_plan.specs.Reading.{at_most, document_of, each, is_table, needs, of_kind, parsed, required, tables, text_at}
+use Rattle.session_plan.specs.Reading.{at_most, document_of, each, is_table, needs, of_kind, or_default, parsed, required, tables, text_at}
+use Rattle.session_plan.specs.Repeats.{delays_at, delays_of, is_repeated_at, repeats_at}
 use Rattle.session_plan.specs.Session.{plan_of, session_of}
 use Rattle.session_plan.specs.Steps.{act_of, channel_at, focus_of, focused_channel, is_act, pilfer_of, step_of, steps_of}
 use Rattle.session_plan.specs.Windows.{window_of, windows_of}
@@ -196,15 +198,23 @@ steps_same channels devices displays d =
     >>= λ steps. Ok (in_order steps))
     place.Document (codes "step") (pruned d) d (in_top d (codes "step") refl)
 
+repeats_same : (d : Data) → repeats_at (pruned d) ≡ repeats_at d
+unfolding repeats_at delays_at is_repeated_at
+repeats_same d = λ i.
+    or_default android_delays (get_same kinds.Top in_document d (codes "repeat_us") refl (λ v. refl) i) (delays_of (key_of place.Document (codes "repeat_us"))) >>= λ delays.
+    or_default true (get_same kinds.Top in_document d (codes "repeat") refl (λ v. refl) i) (λ v. of_kind (key_of place.Document (codes "repeat")) (as_bool v)) >>= λ repeated.
+    Ok (if repeated then Some delays else None)
+
 plan_same : (d : Data) → plan_of (pruned d) ≡ plan_of d
 unfolding plan_of displays_of
 plan_same d = λ i.
     (display_at_same d i >>= λ first. extra_displays_same d i >>= λ others. Ok (first ∷ others)) >>= λ displays.
     number_or_same 0 place.Document (codes "end_us") (pos 0) (pos 1000000000000000000) (pruned d) d (get_same kinds.Top in_document d (codes "end_us") refl (λ v. refl)) i >>= λ end.
+    repeats_same d i >>= λ repeats.
     devices_same (length displays) d i >>= λ devices.
     channels_same d i >>= λ channels.
     steps_same channels (length devices) (length displays) d i >>= λ steps.
-    Ok (record { displays = displays; devices = devices; channels = channels; steps = steps; end = end })
+    Ok (record { displays = displays; devices = devices; channels = channels; steps = steps; end = end; repeats = repeats })
 
 without : (o : Option Data) → (document_of (option_map pruned o) >>= plan_of) ≡ (document_of o >>= plan_of)
 without None = refl

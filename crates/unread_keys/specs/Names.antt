@@ -12,7 +12,8 @@ is_among key names = list_any (λ n. bytes_eq key n) names
 
 -- the keys that are read of a table
 abbrev pub names_of : Kind → List (List ℕ)
-names_of Top = codes "display" ∷ codes "extra_display" ∷ codes "end_us" ∷ codes "device" ∷ codes "channel" ∷ codes "step" ∷ []
+names_of Top =
+    codes "display" ∷ codes "extra_display" ∷ codes "end_us" ∷ codes "repeat_us" ∷ codes "repeat" ∷ codes "device" ∷ codes "channel" ∷ codes "step" ∷ []
 names_of Display = codes "width" ∷ codes "height" ∷ codes "rotation" ∷ []
 names_of Touch = codes "kind" ∷ codes "path" ∷ codes "display" ∷ codes "slots" ∷ codes "x" ∷ codes "y" ∷ []
 names_of Keys = codes "kind" ∷ codes "path" ∷ codes "layout" ∷ []

@@ -30,6 +30,8 @@ pub(crate) fn is_read(kind: Kind, key: &str) -> bool
                 "display",
                 "extra_display",
                 "end_us",
+                "repeat_us",
+                "repeat",
                 "device",
                 "channel",
                 "step",

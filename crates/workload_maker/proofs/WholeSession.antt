@@ -1,8 +1,10 @@
 -- The session of a workload is one that a session file could say.
-use Rattle.std.specs.Prelude.{◌≡◌, ℕ, ◌≤◌, List, [], ◌∷◌, length, map}
+use Rattle.std.specs.Prelude.{◌≡◌, ℕ, ◌≤◌, List, [], ◌∷◌, Option, Some, length, map}
 use Rattle.std.specs.List.{All}
 use Rattle.std.specs.List.Sorted.{IsNonDecreasingBy}
 use Rattle.std.proofs.Common.{rules, arith, sym, ap, subst}
+use Rattle.key_repeat.specs.declared.delays.Repeats.{Repeats}
+use Rattle.key_repeat.specs.Due.{android_delays}
 use Rattle.session_plan.specs.declared.plan.Display.{Display}
 use Rattle.session_plan.specs.declared.plan.Plan.{Plan}
 use Rattle.session_plan.specs.declared.plan.Step.{Step}
@@ -11,10 +13,10 @@ use Rattle.session_plan.specs.Valid.{IsChannel, IsDevice, IsDisplay, IsPlan, IsS
 use Rattle.workload_maker.specs.Session.{channels, displays, session, steps, touch_device}
 
 -- its parts are those of the definition
-pub joined : (ds : List Display) (vs : List DeviceData) (cs : List ChannelData) (ss : List Step) (end : ℕ)
-    → ds ≡ displays → vs ≡ touch_device ∷ [] → cs ≡ channels → ss ≡ steps → end ≡ 0
-    → record { displays = ds; devices = vs; channels = cs; steps = ss; end = end } ≡ session
-joined ds vs cs ss end a b c d e i = record { displays = a i; devices = b i; channels = c i; steps = d i; end = e i }
+pub joined : (ds : List Display) (vs : List DeviceData) (cs : List ChannelData) (ss : List Step) (end : ℕ) (r : Option Repeats)
+    → ds ≡ displays → vs ≡ touch_device ∷ [] → cs ≡ channels → ss ≡ steps → end ≡ 0 → r ≡ Some android_delays
+    → record { displays = ds; devices = vs; channels = cs; steps = ss; end = end; repeats = r } ≡ session
+joined ds vs cs ss end r a b c d e f i = record { displays = a i; devices = b i; channels = c i; steps = d i; end = e i; repeats = f i }
 
 displays_fit : All IsDisplay displays
 displays_fit = search rules

@@ -1,6 +1,7 @@
 -- The session of a workload.
-use Rattle.std.specs.Prelude.{ℕ, ℤ, pos, codes, true, List, [], ◌∷◌}
+use Rattle.std.specs.Prelude.{ℕ, ℤ, pos, codes, true, List, [], ◌∷◌, Some}
 use Rattle.input_types.specs.declared.axis.Rotation.TheVariants.{R0}
+use Rattle.key_repeat.specs.Due.{android_delays}
 use Rattle.session_plan.specs.declared.plan.Act.TheVariants.{Windows}
 use Rattle.session_plan.specs.declared.plan.DeviceKind.TheVariants.{Touch}
 use Rattle.session_plan.specs.declared.plan.Display.{Display}
@@ -51,6 +52,6 @@ channels = channel (codes "nw") ∷ channel (codes "ne") ∷ channel (codes "sw"
 abbrev pub steps : List Step
 steps = record { at = 0; lane = 1; act = Windows windows } ∷ []
 
--- the session, which ends with its last event
+-- the session, which ends with its last event and repeats held keys as Android does
 abbrev pub session : PlanData
-session = record { displays = displays; devices = touch_device ∷ []; channels = channels; steps = steps; end = 0 }
+session = record { displays = displays; devices = touch_device ∷ []; channels = channels; steps = steps; end = 0; repeats = Some android_delays }

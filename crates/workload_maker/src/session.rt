@@ -10,6 +10,7 @@ ghost use Rattle.workload_maker.specs.Session.{channel, channels, displays, fram
 
 use bitflags::Flags;
 use input_types::{Axis, DisplayId, Limit, Moment, Rotation};
+use key_repeat::Repeats;
 use session_plan::{Act, ChannelPlan, DeviceKind, DevicePlan, Display, Plan, Step};
 use std::alloc::{AllocError, Global};
 use touch_region::{Rect, Region};
@@ -30,6 +31,7 @@ pub(crate) fn session(alloc: Global) -> Result<Plan, AllocError>
         channels,
         steps,
         end: Moment::zero(),
+        repeats: Some(Repeats::android()),
     })
 }
 

@@ -34,7 +34,7 @@ const OTHER_TEXTS = [
   [/^\s*[[{]\s*["{[]/, "JSON"],
 ];
 
-const SESSION_TEXT = /^\s*\[\[?\s*(display|extra_display|device|channel|step)\s*\]\]?\s*(#.*)?$|^\s*(display|extra_display|device|channel|step|end_us)\s*[.=]/m;
+const SESSION_TEXT = /^\s*\[\[?\s*(display|extra_display|device|channel|step)\s*\]\]?\s*(#.*)?$|^\s*(display|extra_display|device|channel|step|end_us|repeat_us|repeat)\s*[.=]/m;
 
 /** Whether bytes are events as `cat /dev/input/event2` gives them: seconds, microseconds, type, code, value. */
 function isBinaryEvents(bytes, wordSize) {
