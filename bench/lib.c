@@ -32,7 +32,7 @@ static struct inputflinger_client begin(struct inputflinger_live *live, uint8_t 
 	const struct inputflinger_panel shape = {{0, 1079}, {0, 2399}, 1080, 2400, 0};
 	struct inputflinger_window window = {.rects = 1, .frame = {0, 0, 1080, 2400}};
 
-	demand(inputflinger_live_new(live, 5000000, NULL));
+	demand(inputflinger_live_new(live, 5000000, NULL, NULL));
 	demand(inputflinger_live_add_touch(live, 0, 10, &shape, panel));
 	demand(inputflinger_live_open(live, &window.client));
 	demand(inputflinger_live_windows(live, 0, &window, 1, &window.frame, 1, NULL));

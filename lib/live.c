@@ -12,14 +12,19 @@ static int other_size(const struct inputflinger_live *live)
 	return live->is_open ? INPUTFLINGER_OUT_OF_RANGE : INPUTFLINGER_FREE;
 }
 
-int inputflinger_live_new(struct inputflinger_live *live, uint64_t limit_us,
-		const struct inputflinger_displays *displays)
+int inputflinger_live_new_sized(struct inputflinger_live *live, uint64_t limit_us,
+		const struct inputflinger_repeats *repeats, size_t repeats_size, const struct inputflinger_displays *displays)
 {
+	static const struct inputflinger_repeats android = {500000, 50000};
 	static const struct inputflinger_displays first = {{0}};
+	struct inputflinger_repeats room;
 
 	if (live == NULL)
 		return INPUTFLINGER_NULL;
-	return (int)inputflinger_proved_live_new(live, limit_us, displays != NULL ? displays : &first);
+	repeats = repeats != NULL ? sized_given(&room, sizeof room, REPEATS_FIRST, repeats, repeats_size) : &android;
+	if (repeats == NULL)
+		return live->is_open ? INPUTFLINGER_TAKEN : INPUTFLINGER_OUT_OF_RANGE;
+	return (int)inputflinger_proved_live_new(live, limit_us, repeats, displays != NULL ? displays : &first);
 }
 
 int inputflinger_live_free(struct inputflinger_live *live)
@@ -443,4 +448,14 @@ int inputflinger_live_holds(const struct inputflinger_live *live, const struct i
 		return INPUTFLINGER_NULL;
 	own = *live;
 	return (int)inputflinger_proved_live_holds(&own, client, device, ids);
+}
+
+int inputflinger_live_first_key(const struct inputflinger_live *live, uint8_t device, uint32_t from, uint16_t *scan)
+{
+	struct inputflinger_live own;
+
+	if (live == NULL || scan == NULL)
+		return INPUTFLINGER_NULL;
+	own = *live;
+	return (int)inputflinger_proved_live_first_key(&own, device, from, scan);
 }

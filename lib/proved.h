@@ -16,7 +16,7 @@ uint32_t inputflinger_proved_judge_state(struct inputflinger_judge *judge, struc
 uint32_t inputflinger_proved_judge_keys(struct inputflinger_judge *judge, struct inputflinger_key *keys, size_t room, size_t *count);
 uint32_t inputflinger_proved_judge_free(struct inputflinger_judge *judge);
 uint32_t inputflinger_proved_live_new(struct inputflinger_live *live, uint64_t limit_us,
-		const struct inputflinger_displays *displays);
+		const struct inputflinger_repeats *repeats, const struct inputflinger_displays *displays);
 uint32_t inputflinger_proved_live_free(struct inputflinger_live *live);
 uint32_t inputflinger_proved_live_add_touch(struct inputflinger_live *live, uint8_t display, uint8_t slots,
 		const struct inputflinger_panel *panel, uint8_t *device);
@@ -78,6 +78,8 @@ uint32_t inputflinger_proved_live_is_responsive(struct inputflinger_live *live,
 		const struct inputflinger_client *client, uint8_t *told);
 uint32_t inputflinger_proved_live_holds(struct inputflinger_live *live, const struct inputflinger_client *client,
 		uint8_t device, uint32_t *ids);
+uint32_t inputflinger_proved_live_first_key(struct inputflinger_live *live, uint8_t device, uint32_t from,
+		uint16_t *scan);
 uint32_t inputflinger_proved_run(const char *words, size_t words_len, uint32_t count, const uint8_t *first,
 		size_t first_len, const uint8_t *second, size_t second_len, const uint8_t *third, size_t third_len,
 		char *out, size_t out_room, char *err, size_t err_room, struct inputflinger_ran *ran);

@@ -19,6 +19,7 @@
 #define PANEL_FIRST 24
 #define WINDOW_FIRST 48
 #define OPTIONS_FIRST 16
+#define REPEATS_FIRST 16
 
 /* The struct that a caller means, of our size: its own where it has that size, else a copy in room; NULL if it means none. */
 static inline const void *sized_given(void *room, size_t size, size_t first, const void *given, size_t given_size)

@@ -78,7 +78,7 @@ static void begin(struct loop *loop, const struct input_absinfo *x, const struct
 
 	if (width < 1 || width > 16384 || height < 1 || height > 16384)
 		fail("panel", "more than 16,384 positions on an axis");
-	demand(inputflinger_live_new(&loop->live, LIMIT_US, NULL), "new");
+	demand(inputflinger_live_new(&loop->live, LIMIT_US, NULL, NULL), "new");
 	demand(inputflinger_live_add_touch(&loop->live, 0, (uint8_t)slots, &panel, &loop->panel), "add_touch");
 	for (int i = 0; i < 2; i++)
 		demand(inputflinger_live_open(&loop->live, &windows[i].client), "open");

@@ -19,7 +19,7 @@ in Rattle and proved; this package declares its calls and is tested.
 """
 from inputflinger.errors import BadLayout, Broken, InputflingerError, RunError, Status, WindowError
 from inputflinger.judge import HeldKey, Judge, State
-from inputflinger.live import Client, Handed, Live, Occlusion, Panel, Rect, Window, WindowFlag
+from inputflinger.live import Client, Handed, Live, Occlusion, Panel, Rect, Repeats, Window, WindowFlag
 from inputflinger.messages import FLAG_CANCELED, FLAG_OBSCURED, FLAG_PARTLY_OBSCURED, Action, Fault, Focus, Key, Message, Motion, Pointer, Reason
 from inputflinger.native import version
 from inputflinger.program import Ran, run
@@ -48,6 +48,7 @@ __all__ = [
     "Ran",
     "Reason",
     "Rect",
+    "Repeats",
     "RunError",
     "State",
     "Status",

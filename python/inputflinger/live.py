@@ -4,7 +4,7 @@ import dataclasses
 import enum
 from ctypes import byref
 from types import TracebackType
-from typing import FrozenSet, Optional, Sequence, Tuple, Type
+from typing import FrozenSet, List, Optional, Sequence, Tuple, Type
 
 from inputflinger import native
 from inputflinger.errors import BadLayout, Status, WindowError, done, found
@@ -107,13 +107,26 @@ class Panel:
         return native.Panel(x, y, u16(self.width), u16(self.height), u8(self.rotation))
 
 
+@dataclasses.dataclass(frozen=True)
+class Repeats:
+    """When a key that a client's window holds is repeated: ``first_us`` after it went down, and then ``next_us`` after each repeat. Each is 1,000 to
+    600,000,000 microseconds. The defaults are those of Android."""
+
+    first_us: int = 500000
+    next_us: int = 50000
+
+    def plain(self) -> native.Repeats:
+        return native.Repeats(u64(self.first_us), u64(self.next_us))
+
+
 def _members(mask: int, first: int) -> FrozenSet[int]:
     """The places of the bits of a mask, the lowest of which has this number."""
     return frozenset(first + place for place in range(mask.bit_length()) if mask >> place & 1)
 
 
 class Live:
-    """Sends touches and keys to the windows of clients that come and go. ``limit_us`` is how long a client may leave a message unfinished.
+    """Sends touches and keys to the windows of clients that come and go. ``limit_us`` is how long a client may leave a message unfinished;
+    ``repeats`` says when held keys are repeated, and with None they are not.
 
     >>> from inputflinger import Action, Motion, Pointer
     >>> with Live() as live:
@@ -129,10 +142,11 @@ class Live:
     documents at the call. One thread uses a service at a time.
     """
 
-    def __init__(self, limit_us: int = 5000000, displays: Optional[Sequence[int]] = None) -> None:
+    def __init__(self, limit_us: int = 5000000, displays: Optional[Sequence[int]] = None, repeats: Optional[Repeats] = Repeats()) -> None:
         self._handle = native.Handle()
         of_device = native.Displays((ctypes.c_uint8 * 8)(*map(u8, displays or [0] * 8)))
-        done(native.call("live_new", byref(self._handle), u64(limit_us), byref(of_device)))
+        told = native.Repeats() if repeats is None else repeats.plain()
+        done(native.call("live_new_sized", byref(self._handle), u64(limit_us), byref(told), ctypes.sizeof(told), byref(of_device)))
 
     def add_touch(self, panel: Panel, display: int = 0, slots: int = 10) -> int:
         """Plugs in a touch panel. The answer is its device number."""
@@ -331,6 +345,14 @@ class Live:
         ids = ctypes.c_uint32()
         done(native.call("live_holds", byref(self._handle), byref(client.plain()), u8(device), byref(ids)))
         return _members(ids.value, 0)
+
+    def keys_down(self, device: int) -> Sequence[int]:
+        """The scan codes of the keys that are down on a device, rising. A window that gets the focus while a key is down is sent nothing for that key."""
+        scan = ctypes.c_uint16()
+        keys: List[int] = []
+        while found(native.call("live_first_key", byref(self._handle), u8(device), keys[-1] + 1 if keys else 0, byref(scan))):
+            keys.append(scan.value)
+        return keys
 
     def free(self) -> None:
         """Frees the service; each later call raises an error with the status FREE."""

@@ -98,6 +98,10 @@ class Displays(ctypes.Structure):
     _fields_ = [("of_device", c_uint8 * 8)]
 
 
+class Repeats(ctypes.Structure):
+    _fields_ = [("first_us", c_uint64), ("next_us", c_uint64)]
+
+
 class File(ctypes.Structure):
     _fields_ = [("bytes", c_char_p), ("len", c_size_t)]
 
@@ -116,7 +120,7 @@ CALLS = {
     "judge_state_sized": [_HANDLE, POINTER(State), c_size_t],
     "judge_keys": [_HANDLE, POINTER(Key), c_size_t, _SIZE],
     "judge_free": [_HANDLE],
-    "live_new": [_HANDLE, c_uint64, POINTER(Displays)],
+    "live_new_sized": [_HANDLE, c_uint64, POINTER(Repeats), c_size_t, POINTER(Displays)],
     "live_free": [_HANDLE],
     "live_add_touch_sized": [_HANDLE, c_uint8, c_uint8, POINTER(Panel), c_size_t, _U8],
     "live_add_keys": [_HANDLE, c_uint8, c_char_p, c_size_t, _U8, _U64],
@@ -154,6 +158,7 @@ CALLS = {
     "live_window_at": [_HANDLE, c_uint8, c_int32, c_int32, _CLIENT],
     "live_is_responsive": [_HANDLE, _CLIENT, POINTER(c_bool)],
     "live_holds": [_HANDLE, _CLIENT, c_uint8, _U32],
+    "live_first_key": [_HANDLE, c_uint8, c_uint32, POINTER(c_uint16)],
     "run": [c_char_p, c_size_t, POINTER(File), c_size_t, c_void_p, c_size_t, c_void_p, c_size_t, POINTER(Ran)],
 }
 

@@ -1,6 +1,8 @@
+from typing import Optional
+
 import pytest
 
-from inputflinger import FLAG_OBSCURED, Action, BadLayout, Client, Focus, Handed, InputflingerError, Judge, Key, Live, Motion, Occlusion, Panel, Pointer, Rect, Status, Window, WindowError, WindowFlag
+from inputflinger import FLAG_OBSCURED, Action, BadLayout, Client, Focus, Handed, InputflingerError, Judge, Key, Live, Motion, Occlusion, Panel, Pointer, Rect, Repeats, Status, Window, WindowError, WindowFlag
 
 PANEL = Panel((0, 1079), (0, 2399), 1080, 2400)
 WHOLE = Rect(0, 0, 1080, 2400)
@@ -8,9 +10,9 @@ EV_SYN, EV_KEY, EV_ABS = 0, 1, 3
 SLOT, POSITION_X, POSITION_Y, TRACKING_ID = 0x2F, 0x35, 0x36, 0x39
 
 
-def refused(call, *arguments) -> Status:
+def refused(call, *arguments, **named) -> Status:
     with pytest.raises(InputflingerError) as error:
-        call(*arguments)
+        call(*arguments, **named)
     return error.value.status
 
 
@@ -107,6 +109,40 @@ def test_a_key_is_repeated_and_a_client_is_late() -> None:
         assert live.next(client) == Key(1, 30, True, code=29, repeat=1, seq=3, time_us=501000)
         assert live.is_responsive(client)
         assert live.advance(1001000) == {1} and not live.is_responsive(client)
+
+
+def due_of_a_held_key(repeats: Optional[Repeats]) -> Optional[int]:
+    with Live(repeats=repeats) as live:
+        keys = live.add_keys("key 30 A\n")
+        client = live.open(finishes=True)
+        live.windows(0, [Window(client, WHOLE)])
+        live.focus(0, client)
+        live.event(1000000, keys, EV_KEY, 30, 1)
+        while live.next(client) is not None:
+            pass
+        return live.due()
+
+
+def test_when_a_held_key_is_repeated() -> None:
+    assert due_of_a_held_key(Repeats()) == 1500000
+    assert due_of_a_held_key(Repeats(300000, 40000)) == 1300000
+    assert due_of_a_held_key(None) is None
+    assert refused(Live, repeats=Repeats(999, 50000)) == Status.OUT_OF_RANGE
+    assert refused(Live, repeats=Repeats(500000, 600000001)) == Status.OUT_OF_RANGE
+    assert refused(Live, repeats=Repeats(500000, 0)) == Status.OUT_OF_RANGE
+
+
+def test_keys_that_are_down() -> None:
+    with Live() as live:
+        keys = live.add_keys("key 30 A\n")
+        assert live.keys_down(keys) == [] and live.keys_down(8) == []
+        for scan in (42, 30, 65535, 0):
+            live.event(1000, keys, EV_KEY, scan, 1)
+        assert live.keys_down(keys) == [0, 30, 42, 65535]
+        live.event(2000, keys, EV_KEY, 30, 0)
+        assert live.keys_down(keys) == [0, 42, 65535]
+        live.remove_device(3000, keys)
+        assert live.keys_down(keys) == [] and refused(live.keys_down, 9) == Status.OUT_OF_RANGE
 
 
 def test_clients_come_and_go() -> None:

@@ -38,6 +38,7 @@ static struct {
 	/* By number: "touch", "keys", or NULL if there was no such device. */
 	const char *kinds[INPUTFLINGER_MAX_DEVICES + 1];
 	uint64_t limit_us, last_us;
+	struct inputflinger_repeats repeats;
 	/* Whether something came that a session cannot say. */
 	bool is_over;
 } journal;
@@ -140,13 +141,15 @@ static void write_window(const struct inputflinger_window *window, const struct 
 	fprintf(journal.steps, "]%s },\n", window->flags & INPUTFLINGER_SPY ? ", flags = [\"SPY\"]" : "");
 }
 
-WRAPPED(new, struct inputflinger_live *live, uint64_t limit_us, const struct inputflinger_displays *displays)
+WRAPPED(new_sized, struct inputflinger_live *live, uint64_t limit_us, const struct inputflinger_repeats *repeats,
+	size_t repeats_size, const struct inputflinger_displays *displays)
 {
 	journal.folder = getenv("INPUTFLINGER_JOURNAL");
 	journal.limit_us = limit_us;
+	journal.repeats = repeats ? *repeats : (struct inputflinger_repeats){500000, 50000};
 	if (journal.folder && (journal.recording = open_file("recording.txt")))
 		journal.steps = open_memstream(&journal.steps_text, &journal.steps_len);
-	return __real_inputflinger_live_new(live, limit_us, displays);
+	return __real_inputflinger_live_new_sized(live, limit_us, repeats, repeats_size, displays);
 }
 
 WRAPPED(add_touch_sized, struct inputflinger_live *live, uint8_t display, uint8_t slots,
@@ -284,10 +287,15 @@ static void write_session(const struct server *s, FILE *file)
 		if (strcmp(kind, "touch") == 0)
 			fprintf(file, "slots = 16\nx = [0, %d]\ny = [0, %d]\n", UNITS - 1, UNITS - 1);
 	}
-	for (const struct channel *channel = journal.channels; channel < journal.channels + journal.count; channel++)
+	for (const struct channel *channel = journal.channels; channel < journal.channels + journal.count; channel++) {
 		fprintf(file, "\n[[channel]]\nname = \"%s\"\nlive = %u\nlimit_ms = %" PRIu64 "\nfinishes = %s\n",
 			channel->name, channel->live, journal.limit_us / 1000,
 			channel->was_sent && !channel->has_finished ? "false" : "true");
+		if (journal.repeats.first_us == 0)
+			fputs("repeat = false\n", file);
+		else
+			fprintf(file, "repeat_us = [%" PRIu64 ", %" PRIu64 "]\n", journal.repeats.first_us, journal.repeats.next_us);
+	}
 	fputs(journal.steps_text, file);
 }
 

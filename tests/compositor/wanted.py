@@ -21,7 +21,7 @@ class Message:
             self.pointers = [tuple(int(number) for number in place.groups()) for place in places if place]
             self.rank = 2 if self.action in BEGINS else 0 if self.action in ENDS else 1
         elif kind == "key":
-            self.scan, self.is_down, self.repeat = int(words[1]), words[4] == "DOWN", int(words[-1])
+            self.scan, self.is_down = int(words[1]), words[4] == "DOWN"
             self.rank = 3 + self.is_down
         else:
             self.focus = words[0] == "1"
@@ -123,8 +123,7 @@ class Peer:
                     self.has_frame = True
 
     def key(self, message):
-        if message.repeat == 0:
-            self.printed.append("key %d %d %d" % (message.moment // 1000 % 2**32, message.scan, message.is_down))
+        self.printed.append("key %d %d %d" % (message.moment // 1000 % 2**32, message.scan, message.is_down))
 
     def focused(self, surface, message):
         self.printed.append("%s %s%s" % ("enter" if message.focus else "leave", surface, " 0" if message.focus else ""))

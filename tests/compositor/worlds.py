@@ -110,7 +110,7 @@ class Random:
             self.keys = set()
 
     def wait(self):
-        """More than the time after which a window is reported, in pieces after which repeats of held keys are finished."""
+        """More than the time after which a window is reported, in pieces."""
         for _ in range(4):
             self.now += 2000000
             yield "clock %d" % self.now

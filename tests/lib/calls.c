@@ -24,7 +24,8 @@
  * `touch_cancel` the device and the touch id, and `touch_frame` has the device. A client may leave a message unfinished
  * for five seconds. `next` has a client, and lists all that it has; `next_any` lists all that any client has, in the order
  * in which the service sent it, and `last` after each step. `most` sets how many messages a client may leave
- * unreceived.
+ * unreceived. `repeats` begins anew with delays of repeats of its own, both 0 for none; `keys_down` has a device, and lists
+ * its keys that are down.
  */
 #include <stdlib.h>
 #include <string.h>
@@ -56,10 +57,10 @@ static void fail(const char *what, const char *line)
 	exit(1);
 }
 
-static void begin(void)
+static void begin(const struct inputflinger_repeats *repeats)
 {
 	opened = 0;
-	if (inputflinger_live_new(&live, 5000000, &displays) != INPUTFLINGER_OK)
+	if (inputflinger_live_new(&live, 5000000, repeats, &displays) != INPUTFLINGER_OK)
 		fail("no service", "");
 }
 
@@ -339,6 +340,25 @@ static int doing(const struct line *line)
 	return 0;
 }
 
+/* The keys that are down on a device, or a service with other repeats. */
+static bool repeating(const struct line *line)
+{
+	uint16_t scan;
+
+	if (is(line, "repeats", 2)) {
+		end();
+		begin(&(struct inputflinger_repeats){line->n[0], line->n[1]});
+		puts(" done");
+		return true;
+	}
+	if (!is(line, "keys_down", 1))
+		return false;
+	for (uint32_t from = 0; inputflinger_live_first_key(&live, (uint8_t)line->n[0], from, &scan) == INPUTFLINGER_OK; from = scan + 1u)
+		printf(" %u", scan);
+	putchar('\n');
+	return true;
+}
+
 /* A call whose answer is a word. */
 static int calling(const struct line *line)
 {
@@ -369,19 +389,19 @@ int main(void)
 {
 	static char text[65536];
 
-	begin();
+	begin(NULL);
 	while (fgets(text, sizeof text, stdin) != NULL) {
 		text[strcspn(text, "\n")] = '\0';
 		fputs(text, stdout);
 		if (text[0] == '#') {
 			putchar('\n');
 			end();
-			begin();
+			begin(NULL);
 		} else {
 			struct line line = read_line(text);
 
 			fputs(" =", stdout);
-			if (!coming(&line) && !reading(&line) && !receiving(&line))
+			if (!coming(&line) && !reading(&line) && !receiving(&line) && !repeating(&line))
 				printf(" %s\n", name_of(calling(&line)));
 		}
 	}

@@ -96,7 +96,9 @@ static void close_seat(struct seat *s)
 
 static void begin(struct side *side, uint64_t call)
 {
-	int status = inputflinger_live_new(&side->live, rarely() ? below(1000) : 1000000, NULL);
+	static const struct inputflinger_repeats all[] = {{0, 0}, {500000, 50000}, {1000, 1000}, {300000, 600000000}, {0, 50000}};
+	const struct inputflinger_repeats *repeats = below(2) ? NULL : &all[below(4 + rarely())];
+	int status = inputflinger_live_new(&side->live, rarely() ? below(1000) : 1000000, repeats, NULL);
 	uint8_t device;
 
 	if (side->is_open) {
@@ -375,10 +377,12 @@ static void ask(struct side *side, uint32_t i)
 	struct inputflinger_client k = client(side, i), told;
 	uint64_t number;
 	uint32_t ids;
+	uint16_t scan;
 	uint8_t device;
 	bool is;
 
 	inputflinger_live_waiting(&side->live, &number);
+	inputflinger_live_first_key(&side->live, (uint8_t)below(10), below(70000), &scan);
 	inputflinger_live_due(&side->live, &number);
 	inputflinger_live_clock(&side->live, &number);
 	inputflinger_live_is_open(&side->live, &k, &is);

@@ -83,6 +83,7 @@ static void other_sizes(void)
 	struct inputflinger_fault fault = {.place = 77};
 	struct inputflinger_state state = {.focus = 77};
 	struct inputflinger_window window = {.client = client};
+	struct inputflinger_repeats repeats = {1000, 1000};
 	uint8_t device = 77;
 	bool last = true;
 
@@ -92,6 +93,7 @@ static void other_sizes(void)
 		CHECK(inputflinger_judge_step_sized(&judge, &m, MESSAGE_FIRST - 1, &fault, sizeof fault) == wanted);
 		CHECK(inputflinger_judge_step_sized(&judge, &m, sizeof m, &fault, sizeof fault - 1) == wanted);
 		CHECK(inputflinger_judge_state_sized(&judge, &state, sizeof state - 1) == wanted);
+		CHECK(inputflinger_live_new_sized(&live, 1000000, &repeats, REPEATS_FIRST - 1, NULL) == (open ? INPUTFLINGER_TAKEN : INPUTFLINGER_OUT_OF_RANGE));
 		CHECK(inputflinger_live_add_touch_sized(&live, 0, 1, &panel, sizeof panel - 1, &device) == wanted);
 		CHECK(inputflinger_live_args_sized(&live, 0, &m, MESSAGE_FIRST - 1) == wanted);
 		CHECK(inputflinger_live_windows_sized(&live, 0, &window, WINDOW_FIRST - 1, 1, NULL, 0, NULL) == wanted);
@@ -100,7 +102,7 @@ static void other_sizes(void)
 		CHECK(inputflinger_live_next_any_sized(&live, &client, &m, MESSAGE_FIRST - 1, &last) == wanted && last);
 		CHECK(fault.place == 77 && state.focus == 77 && device == 77 && m.count == 1);
 		OK(open ? inputflinger_judge_free(&judge) : inputflinger_judge_new(&judge));
-		OK(open ? inputflinger_live_free(&live) : inputflinger_live_new(&live, 1000000, NULL));
+		OK(open ? inputflinger_live_free(&live) : inputflinger_live_new(&live, 1000000, NULL, NULL));
 	}
 }
 
@@ -117,7 +119,7 @@ static void later_live(void)
 	uint8_t device = 77;
 	bool last = false;
 
-	OK(inputflinger_live_new(&live, 1000000, NULL));
+	OK(inputflinger_live_new(&live, 1000000, NULL, NULL));
 	CHECK(inputflinger_live_add_touch_sized(&live, 0, 1, &long_panel.now, sizeof long_panel, &device) == INPUTFLINGER_OUT_OF_RANGE);
 	long_panel.more = 0;
 	OK(inputflinger_live_add_touch_sized(&live, 0, 1, &long_panel.now, sizeof long_panel, &device));
@@ -175,7 +177,7 @@ static void older_windows(void)
 	unsigned char windows[2 * WINDOW_FIRST];
 	uint8_t device;
 
-	OK(inputflinger_live_new(&live, 1000000, NULL));
+	OK(inputflinger_live_new(&live, 1000000, NULL, NULL));
 	OK(inputflinger_live_add_touch(&live, 0, 1, &panel, &device));
 	for (int i = 0; i < 2; i++) {
 		struct inputflinger_window window = {.frame = whole[0], .rects = 1, .flags = i == 0 ? INPUTFLINGER_NOT_TOUCHABLE : 0};

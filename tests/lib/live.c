@@ -141,7 +141,7 @@ static void nulls(void)
 	uint8_t device;
 	bool told;
 
-	CHECK(inputflinger_live_new(NULL, LIMIT, NULL) == INPUTFLINGER_NULL);
+	CHECK(inputflinger_live_new(NULL, LIMIT, NULL, NULL) == INPUTFLINGER_NULL);
 	CHECK(inputflinger_live_free(NULL) == INPUTFLINGER_NULL);
 	CHECK(inputflinger_live_add_touch(NULL, 0, 1, &panel, &device) == INPUTFLINGER_NULL);
 	CHECK(inputflinger_live_add_touch(&live, 0, 1, NULL, &device) == INPUTFLINGER_NULL);
@@ -219,12 +219,12 @@ static void beginnings(void)
 	struct inputflinger_panel other = panel;
 	uint8_t device = 77;
 
-	CHECK(inputflinger_live_new(&live, 999, NULL) == INPUTFLINGER_OUT_OF_RANGE);
-	CHECK(inputflinger_live_new(&live, 600000001, NULL) == INPUTFLINGER_OUT_OF_RANGE);
-	CHECK(inputflinger_live_new(&live, LIMIT, &bad) == INPUTFLINGER_OUT_OF_RANGE);
+	CHECK(inputflinger_live_new(&live, 999, NULL, NULL) == INPUTFLINGER_OUT_OF_RANGE);
+	CHECK(inputflinger_live_new(&live, 600000001, NULL, NULL) == INPUTFLINGER_OUT_OF_RANGE);
+	CHECK(inputflinger_live_new(&live, LIMIT, NULL, &bad) == INPUTFLINGER_OUT_OF_RANGE);
 	CHECK(!live.is_open);
-	OK(inputflinger_live_new(&live, LIMIT, &displays));
-	CHECK(inputflinger_live_new(&live, LIMIT, &displays) == INPUTFLINGER_TAKEN);
+	OK(inputflinger_live_new(&live, LIMIT, NULL, &displays));
+	CHECK(inputflinger_live_new(&live, LIMIT, NULL, &displays) == INPUTFLINGER_TAKEN);
 	CHECK(inputflinger_live_add_touch(&live, 4, 10, &panel, &device) == INPUTFLINGER_OUT_OF_RANGE);
 	CHECK(inputflinger_live_add_touch(&live, 0, 0, &panel, &device) == INPUTFLINGER_BAD_SLOTS);
 	CHECK(inputflinger_live_add_touch(&live, 0, 17, &panel, &device) == INPUTFLINGER_BAD_SLOTS);
@@ -272,7 +272,7 @@ static void layouts(void)
 	uint8_t device = 77;
 	message_t m;
 
-	OK(inputflinger_live_new(&live, LIMIT, &displays));
+	OK(inputflinger_live_new(&live, LIMIT, NULL, &displays));
 	CHECK(inputflinger_live_add_keys(&live, 4, good, sizeof good - 1, &device, &line) == INPUTFLINGER_OUT_OF_RANGE && line == 77);
 	CHECK(inputflinger_live_add_keys(&live, 0, name, sizeof name - 1, &device, &line) == INPUTFLINGER_BAD_LAYOUT && line == 1);
 	CHECK(inputflinger_live_add_keys(&live, 0, twice, sizeof twice - 1, &device, &line) == INPUTFLINGER_BAD_LAYOUT && line == 2);
@@ -306,7 +306,7 @@ static void clients(void)
 	client_t first = {0}, other = {0}, told = {77, 77};
 	bool is = false;
 
-	OK(inputflinger_live_new(&live, LIMIT, NULL));
+	OK(inputflinger_live_new(&live, LIMIT, NULL, NULL));
 	OK(inputflinger_live_open(&live, &first));
 	same_client(first, 1, 1);
 	for (uint32_t i = 2; i <= 64; i++) {
@@ -347,7 +347,7 @@ static void windows(void)
 	uint64_t named = 77;
 	uint32_t ids = 77;
 
-	OK(inputflinger_live_new(&live, LIMIT, NULL));
+	OK(inputflinger_live_new(&live, LIMIT, NULL, NULL));
 	OK(inputflinger_live_open(&live, &a));
 	OK(inputflinger_live_open(&live, &b));
 	two[0] = window(a, 0);
@@ -397,7 +397,7 @@ static void fingers(void)
 	uint32_t ids = 0;
 	uint8_t device = 0;
 
-	OK(inputflinger_live_new(&live, LIMIT, NULL));
+	OK(inputflinger_live_new(&live, LIMIT, NULL, NULL));
 	OK(inputflinger_live_add_touch(&live, 0, 10, &panel, &device));
 	OK(inputflinger_live_open(&live, &spy));
 	OK(inputflinger_live_open(&live, &behind));
@@ -453,7 +453,7 @@ static void keys_and_time(void)
 	uint8_t device = 0;
 	bool is = true;
 
-	OK(inputflinger_live_new(&live, LIMIT, NULL));
+	OK(inputflinger_live_new(&live, LIMIT, NULL, NULL));
 	OK(inputflinger_live_add_touch(&live, 0, 10, &panel, &device));
 	OK(inputflinger_live_open(&live, &client));
 	one = window(client, 0);
@@ -519,7 +519,7 @@ static void finished_through(void)
 	uint64_t number = 77;
 	uint8_t device = 0;
 
-	OK(inputflinger_live_new(&live, LIMIT, NULL));
+	OK(inputflinger_live_new(&live, LIMIT, NULL, NULL));
 	OK(inputflinger_live_add_touch(&live, 0, 10, &panel, &device));
 	OK(inputflinger_live_open(&live, &client));
 	one = window(client, 0);
@@ -565,7 +565,7 @@ static void single_fingers(void)
 	uint64_t number = 77;
 	uint8_t device = 0;
 
-	OK(inputflinger_live_new(&live, LIMIT, NULL));
+	OK(inputflinger_live_new(&live, LIMIT, NULL, NULL));
 	OK(inputflinger_live_add_touch(&live, 0, 16, &panel, &device));
 	OK(inputflinger_live_open(&live, &client));
 	one = window(client, 0);
@@ -626,7 +626,7 @@ static void in_order(void)
 	uint8_t device = 0;
 	bool last = true;
 
-	OK(inputflinger_live_new(&live, LIMIT, NULL));
+	OK(inputflinger_live_new(&live, LIMIT, NULL, NULL));
 	OK(inputflinger_live_add_keys(&live, 0, "key 115 VOLUME_UP\n", 18, &device, NULL));
 	OK(inputflinger_live_open(&live, &left));
 	OK(inputflinger_live_open(&live, &right));
@@ -658,7 +658,7 @@ static void after_a_finish(void)
 	struct inputflinger_window two[2];
 	uint8_t device = 0;
 
-	OK(inputflinger_live_new(&live, LIMIT, NULL));
+	OK(inputflinger_live_new(&live, LIMIT, NULL, NULL));
 	OK(inputflinger_live_add_touch(&live, 0, 10, &panel, &device));
 	OK(inputflinger_live_open(&live, &left));
 	OK(inputflinger_live_open(&live, &right));
@@ -690,7 +690,7 @@ static void closed_under_a_finger(void)
 	message_t m = motion(1, INPUTFLINGER_DOWN, 0, 0x1, 540, 1200);
 	uint8_t device = 0;
 
-	OK(inputflinger_live_new(&live, LIMIT, NULL));
+	OK(inputflinger_live_new(&live, LIMIT, NULL, NULL));
 	OK(inputflinger_live_add_touch(&live, 0, 10, &panel, &device));
 	OK(inputflinger_live_open(&live, &first));
 	one = window(first, 0);
@@ -754,7 +754,7 @@ static void example(void)
 	uint64_t due;
 	uint8_t device;
 
-	OK(inputflinger_live_new(&live, LIMIT, NULL));
+	OK(inputflinger_live_new(&live, LIMIT, NULL, NULL));
 	OK(inputflinger_live_add_touch(&live, 0, 10, &panel, &device));
 	OK(inputflinger_live_open(&live, &left));
 	OK(inputflinger_live_open(&live, &right));
@@ -796,7 +796,7 @@ static void one_window(void)
 	uint64_t clock = 77;
 	uint8_t device = 0;
 
-	OK(inputflinger_live_new(&live, LIMIT, NULL));
+	OK(inputflinger_live_new(&live, LIMIT, NULL, NULL));
 	OK(inputflinger_live_add_touch(&live, 0, 10, &panel, &device));
 	OK(inputflinger_live_open(&live, &a));
 	OK(inputflinger_live_open(&live, &b));
@@ -858,7 +858,7 @@ static void begin_choking(live_t *live, client_t *a, client_t *b)
 	struct inputflinger_window two[2];
 	uint8_t device = 0;
 
-	OK(inputflinger_live_new(live, LIMIT, NULL));
+	OK(inputflinger_live_new(live, LIMIT, NULL, NULL));
 	OK(inputflinger_live_add_touch(live, 0, 10, &panel, &device));
 	OK(inputflinger_live_open(live, a));
 	OK(inputflinger_live_open(live, b));

@@ -41,7 +41,7 @@ int main(void)
 	uint8_t device;
 	long before = 0;
 
-	demand(inputflinger_live_new(&live, 5000000, NULL));
+	demand(inputflinger_live_new(&live, 5000000, NULL, NULL));
 	demand(inputflinger_live_add_touch(&live, 0, 10, &panel, &device));
 	demand(inputflinger_live_open(&live, &client));
 	window.client = client;

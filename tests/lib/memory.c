@@ -222,10 +222,11 @@ static void begin(struct life *life, struct inputflinger_client *spy, struct inp
 		uint64_t more;
 	} longer[2] = {{.more = 0}, {.more = 0}};
 	static const struct inputflinger_options options = {3, 0};
+	static const struct inputflinger_repeats repeats = {500000, 50000};
 	uint64_t line = 77;
 	uint8_t device = 77;
 
-	AGAIN(inputflinger_live_new(&life->live, 1000000, NULL));
+	AGAIN(inputflinger_live_new(&life->live, 1000000, &repeats, NULL));
 	AGAIN(inputflinger_judge_new(&life->judge));
 	AGAIN(inputflinger_live_add_touch(&life->live, 0, 10, &panel, &device));
 	CHECK(device == 1);
@@ -265,6 +266,7 @@ static void live_on(struct life *life)
 	struct inputflinger_message m = down(1);
 	struct inputflinger_key keys[4];
 	uint64_t mask;
+	uint16_t scan;
 	size_t count;
 
 	begin(life, &spy, &behind);
@@ -275,6 +277,7 @@ static void live_on(struct life *life)
 	event(life, 1, 0, 0, 0);
 	event(life, 2, 1, 30, 1);
 	get(life, &behind);
+	CHECK(inputflinger_live_first_key(&life->live, 2, 0, &scan) == INPUTFLINGER_OK && scan == 30);
 	AGAIN(inputflinger_judge_keys(&life->judge, keys, 4, &count));
 	CHECK(count == 1 && keys[0].device == 2 && keys[0].scan == 30);
 	life->now = 2000;

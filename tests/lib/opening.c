@@ -80,7 +80,7 @@ static void ranges(void)
 	client_t client = {77, 7};
 	uint64_t number = 77;
 
-	OK(inputflinger_live_new(&live, LIMIT, NULL));
+	OK(inputflinger_live_new(&live, LIMIT, NULL, NULL));
 	CHECK(inputflinger_live_open_with(&live, &options, &client) == INPUTFLINGER_OUT_OF_RANGE);
 	options.finishes = 255;
 	CHECK(inputflinger_live_open_with(&live, &options, &client) == INPUTFLINGER_OUT_OF_RANGE);
@@ -107,7 +107,7 @@ static void user_data(void)
 	client_t first = {0}, second = {0}, other = {0};
 	uint64_t number = 0;
 
-	OK(inputflinger_live_new(&live, LIMIT, NULL));
+	OK(inputflinger_live_new(&live, LIMIT, NULL, NULL));
 	OK(inputflinger_live_open_with(&live, &options, &first));
 	OK(inputflinger_live_open(&live, &other));
 	OK(inputflinger_live_user_data(&live, &first, &number));
@@ -145,7 +145,7 @@ static void finishes(void)
 	uint8_t device;
 	bool last;
 
-	OK(inputflinger_live_new(&live, LIMIT, NULL));
+	OK(inputflinger_live_new(&live, LIMIT, NULL, NULL));
 	OK(inputflinger_live_add_touch(&live, 0, 10, &panel, &device));
 	for (int i = 0; i < 2; i++) {
 		OK(inputflinger_live_open_with(&live, &options[i], &clients[i]));
@@ -192,7 +192,7 @@ static void older_message(void)
 	message_t m;
 	uint8_t device;
 
-	OK(inputflinger_live_new(&live, LIMIT, NULL));
+	OK(inputflinger_live_new(&live, LIMIT, NULL, NULL));
 	OK(inputflinger_live_add_touch(&live, 0, 10, &panel, &device));
 	OK(inputflinger_live_open_with(&live, &options, &client));
 	window = (struct inputflinger_window){.client = client, .frame = screen, .rects = 1};
@@ -224,7 +224,7 @@ static void window_at(void)
 	live_t live = {0};
 	client_t client = {77, 77};
 
-	OK(inputflinger_live_new(&live, LIMIT, &displays));
+	OK(inputflinger_live_new(&live, LIMIT, NULL, &displays));
 	at(&live, 0, 0, 0, 0);
 	for (int i = 0; i < 5; i++) {
 		windows[i].frame = rects[i];

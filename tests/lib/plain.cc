@@ -17,7 +17,7 @@ int main()
 
 	inputflinger_live live = {};
 	inputflinger_client client = {};
-	if (inputflinger_live_new(&live, 5000000, nullptr) != INPUTFLINGER_OK)
+	if (inputflinger_live_new(&live, 5000000, nullptr, nullptr) != INPUTFLINGER_OK)
 		return 1;
 	if (inputflinger_live_open(&live, &client) != INPUTFLINGER_OK || client.channel != 1)
 		return 1;

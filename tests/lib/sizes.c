@@ -70,6 +70,8 @@ AT(inputflinger_panel, rotation, 20);
 AT(inputflinger_displays, of_device, 0);
 AT(inputflinger_options, user_data, 0);
 AT(inputflinger_options, finishes, 8);
+AT(inputflinger_repeats, first_us, 0);
+AT(inputflinger_repeats, next_us, 8);
 AT(inputflinger_ran, out_len, 0);
 AT(inputflinger_ran, err_len, 8);
 AT(inputflinger_ran, status, 16);
@@ -90,6 +92,7 @@ _Static_assert(sizeof(struct inputflinger_panel) == 24, "a panel");
 _Static_assert(sizeof(struct inputflinger_displays) == 8, "displays");
 _Static_assert(sizeof(struct inputflinger_ran) == 24, "what a run came to");
 _Static_assert(sizeof(struct inputflinger_options) == 16, "options");
+_Static_assert(sizeof(struct inputflinger_repeats) == 16, "repeats");
 
 int main(void)
 {
@@ -98,7 +101,7 @@ int main(void)
 		sizeof(struct inputflinger_fault), sizeof(struct inputflinger_state), sizeof(struct inputflinger_key), sizeof(struct inputflinger_live),
 		sizeof(struct inputflinger_client), sizeof(struct inputflinger_rect), sizeof(struct inputflinger_window),
 		sizeof(struct inputflinger_axis), sizeof(struct inputflinger_panel), sizeof(struct inputflinger_displays),
-		sizeof(struct inputflinger_ran), sizeof(struct inputflinger_options), 0,
+		sizeof(struct inputflinger_ran), sizeof(struct inputflinger_options), sizeof(struct inputflinger_repeats), 0,
 	};
 
 	for (uint32_t i = 0; i < sizeof sizes / sizeof *sizes; i++) {

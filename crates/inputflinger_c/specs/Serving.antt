@@ -1,5 +1,6 @@
 -- The result of a call of a live service, by what its handle has.
 use Rattle.std.specs.Prelude.{◌≡◌, ℕ, List, [], replicate, Option, Some, None, is_some, if◌then◌else◌}
+use Rattle.dispatch_calls.specs.declared.terms.Terms.{Terms}
 use Rattle.live_input.specs.Seats.{vacant}
 use Rattle.live_input.specs.Standing.{LiveIs}
 use Rattle.live_input.specs.declared.limit.Limited.{Limited}
@@ -16,10 +17,10 @@ OnService (Some old) status (Some new) unchanged Goes = Goes old new
 abbrev pub LiveFrees : Option Limited → ℕ → Option Limited → Type 0
 LiveFrees old status new = (status ≡ (if is_some old then is_ok else is_free)) × (new ≡ None)
 
--- A service at its start: it stands for no call, on these displays, with no client and no device.
-pub record Begins (limit : ℕ) (displays : List ℕ) (s : Limited) : Type 0 where
+-- A service at its start: it stands for no call, on these terms and displays, with no client and no device.
+pub record Begins (terms : Terms) (displays : List ℕ) (s : Limited) : Type 0 where
   pub start : LiveIs displays [] s.live
-  pub limit_is : s.live.limit ≡ limit
+  pub terms_are : s.live.terms ≡ terms
   pub clock : s.live.clock ≡ 0
   pub seats : s.live.seats ≡ replicate 64 vacant
   pub opened : s.live.opened ≡ 0
@@ -30,9 +31,9 @@ pub record Begins (limit : ℕ) (displays : List ℕ) (s : Limited) : Type 0 whe
 
 -- The result of `new`: a handle that is not free keeps its service. Otherwise numbers out of range are refused, or
 -- memory ran out, or the handle has a service at its start.
-abbrev pub LiveOpens : Option Limited → (limit : Option ℕ) → (displays : Option (List ℕ)) → ℕ → Option Limited → Type 0
-LiveOpens (Some old) limit displays status new = (status ≡ is_taken) × (new ≡ Some old)
+abbrev pub LiveOpens : Option Limited → (terms : Option Terms) → (displays : Option (List ℕ)) → ℕ → Option Limited → Type 0
+LiveOpens (Some old) terms displays status new = (status ≡ is_taken) × (new ≡ Some old)
 LiveOpens None None displays status new = (status ≡ out_of_range) × (new ≡ None)
-LiveOpens None (Some l) None status new = (status ≡ out_of_range) × (new ≡ None)
-LiveOpens None (Some l) (Some ds) status None = status ≡ no_memory
-LiveOpens None (Some l) (Some ds) status (Some new) = (status ≡ is_ok) × Begins l ds new
+LiveOpens None (Some ts) None status new = (status ≡ out_of_range) × (new ≡ None)
+LiveOpens None (Some ts) (Some ds) status None = status ≡ no_memory
+LiveOpens None (Some ts) (Some ds) status (Some new) = (status ≡ is_ok) × Begins ts ds new

@@ -2,8 +2,8 @@
 use Rattle.std.specs.Prelude.{ℕ, ◌==◌, if◌then◌else◌}
 
 -- The size of a struct by its number, where a pointer has 8 bytes: a judge, a pointer, a message, a fault, a state, a
--- key, a live service, a client, a rectangle, a window, an axis, a panel, displays, what a run came to, and the options
--- of a client. No other number has one.
+-- key, a live service, a client, a rectangle, a window, an axis, a panel, displays, what a run came to, the options of a
+-- client, and repeats. No other number has one.
 abbrev pub size_of : ℕ → ℕ
 size_of n =
     if n == 0 then 16
@@ -21,4 +21,5 @@ size_of n =
     else if n == 12 then 8
     else if n == 13 then 24
     else if n == 14 then 16
+    else if n == 15 then 16
     else 0

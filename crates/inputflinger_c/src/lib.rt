@@ -47,6 +47,7 @@ mod live_driving;
 mod live_exports;
 mod live_fingers;
 mod live_giving;
+mod live_keys;
 mod live_messages;
 mod live_next_any;
 mod live_plugging;

@@ -1,38 +1,41 @@
 //! Creating and freeing a live service, and its clients that come and go.
 ghost use Rattle.std.specs.Prelude.{IfOk};
-ghost use Rattle.plain_calls.specs.Numbers.{limit_of};
+ghost use Rattle.plain_calls.specs.Repeats.{terms_of};
 ghost use Rattle.plain_calls.specs.Screens.{displays_of};
 ghost use Rattle.inputflinger_c.specs.Serving.{Begins, LiveFrees, LiveOpens};
 
 use crate::service::Service;
-use input_types::{Displays, Limit};
+use dispatch_calls::Terms;
+use input_types::Displays;
 use live_input::Limited;
 use plain_calls::status::{FREE, MEMORY, OK, RANGE, TAKEN};
-use plain_calls::{PlainDisplays, limit_of};
+use plain_calls::{PlainDisplays, PlainRepeats, terms_of};
 use std::alloc::{AllocError, Global};
 
-/// Puts a service without clients into a free handle, with its devices on these displays and this limit for messages
-/// that a client leaves unfinished. `TAKEN` if the handle is not free, `RANGE` if a number is out of its range, and
-/// `MEMORY` if memory runs out; the handle then stays as it was.
+/// Puts a service without clients into a free handle, with its devices on these displays, this limit for messages that
+/// a client leaves unfinished, and these repeats of held keys. `TAKEN` if the handle is not free, `RANGE` if a number
+/// is out of its range, and `MEMORY` if memory runs out; the handle then stays as it was.
 #[unsafe(no_mangle)]
 pub extern "C" fn inputflinger_proved_live_new(
     alloc: Global,
     live: &mut Service,
     limit_us: u64,
+    repeats: &PlainRepeats,
     displays: &PlainDisplays,
 ) -> u32
-    ensures { LiveOpens live.old.cell.state (limit_of limit_us) (displays_of displays.now) result live.new.cell.state }
+    ensures { LiveOpens live.old.cell.state (terms_of limit_us repeats.now) (displays_of displays.now) result
+        live.new.cell.state }
 {
     if live.is_open() {
         return TAKEN;
     }
-    let Some(limit) = limit_of(limit_us) else {
+    let Some(terms) = terms_of(limit_us, repeats) else {
         return RANGE;
     };
     let Some(displays) = displays.read() else {
         return RANGE;
     };
-    match boxed(alloc, limit, &displays) {
+    match boxed(alloc, terms, &displays) {
         Ok(made) => {
             live.put(made);
             OK
@@ -44,10 +47,10 @@ pub extern "C" fn inputflinger_proved_live_new(
 /// A new service in a block of its own. It is not inlined: in a caller that has just read the displays, LLVM 22 set up
 /// the large frame of a service with a register that held one of them.
 #[inline(never)]
-fn boxed(alloc: Global, limit: Limit, displays: &Displays) -> Result<Box<Limited>, AllocError>
-    ensures { IfOk result (λ b. Begins limit displays.now b.value) }
+fn boxed(alloc: Global, terms: Terms, displays: &Displays) -> Result<Box<Limited>, AllocError>
+    ensures { IfOk result (λ b. Begins terms displays.now b.value) }
 {
-    let live = Limited::new(alloc, limit, displays)?;
+    let live = Limited::new(alloc, terms, displays)?;
     Ok(Box::new(alloc, live)?)
 }
 

@@ -1,6 +1,8 @@
 //! The service at the start: a panel, and two clients with their windows.
 use device_reader::touch_mapper::Cook;
+use dispatch_calls::Terms;
 use input_types::{Axis, DeviceId, DisplayId, Displays, Limit, Moment, Rotation};
+use key_repeat::Repeats;
 use live_input::{Client, ClientWindow, Live, WindowInfo};
 use std::alloc::Global;
 use touch_region::{Rect, Region};
@@ -66,8 +68,11 @@ fn set_up(alloc: Global, live: &mut Live) -> Option<(DeviceId, Client)> {
 
 /// A service with a panel, and two clients with their windows.
 pub(crate) fn start(alloc: Global) -> Option<Started> {
-    let limit = Limit::new(5_000_000)?;
-    let mut live = Live::new(alloc, limit, &Displays::new()).ok()?;
+    let terms = Terms {
+        limit: Limit::new(5_000_000)?,
+        repeats: Some(Repeats::android()),
+    };
+    let mut live = Live::new(alloc, terms, &Displays::new()).ok()?;
     match set_up(alloc, &mut live) {
         Some((panel, idle)) => Some(Started {
             alloc,

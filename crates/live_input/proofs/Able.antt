@@ -26,9 +26,9 @@ use Rattle.live_input.proofs.Reported.{tick_mask}
 part_leaves : (call : Call) (answer : Reply) (c : ℕ) (s : ChannelState) → is_finish_of call answer c ≡ false
     → (with_part (part_of call answer c) s).unfinished ≡ s.unfinished
 part_leaves (Finish now k seq) Done c s e = ap (λ b. (with_part (cond b (Finishes seq) Untouched) s).unfinished) e
-part_leaves (Open limit) (Opened k) c s e = by_channel (c == k)
+part_leaves (Open terms) (Opened k) c s e = by_channel (c == k)
   where
-    by_channel : (b : Bool) → (with_part (cond b (Opens limit) Untouched) s).unfinished ≡ s.unfinished
+    by_channel : (b : Bool) → (with_part (cond b (Opens terms) Untouched) s).unfinished ≡ s.unfinished
     by_channel true = refl
     by_channel false = refl
 part_leaves (Receive k) (Got m) c s e = by_channel (c == k)

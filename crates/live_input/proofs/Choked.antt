@@ -10,7 +10,7 @@ use Rattle.dispatch_history.specs.Focus.{asked, focus, requested}
 use Rattle.dispatch_history.specs.History.{snapshot}
 use Rattle.dispatch_history.specs.Legal.{run}
 use Rattle.dispatch_history.specs.Ordered.{extend}
-use Rattle.dispatch_history.proofs.Worked.{at, focused, motion, moved, one_display, says, window}
+use Rattle.dispatch_history.proofs.Worked.{usual, at, focused, motion, moved, one_display, says, window}
 use Rattle.live_input.specs.declared.client.Seat.{Seat}
 use Rattle.live_input.specs.Wanted.{Wanted}
 use Rattle.live_input.specs.Limit.{eased, is_choked, walled, without_client}
@@ -42,7 +42,7 @@ wants choked is_shown = record { most = 1; windows = of_client 1 0 ∷ []; reque
 
 -- The client has the focus, and a finger goes down in its window: two messages, of which it received the first.
 abbrev held : List Effect
-held = run one_display (reverse (Open 5000000 ∷ Windows 0 (whole 1 0 ∷ []) ∷ FocusOn 0 0 (Some 1) ∷ Receive 1 ∷ [] ++ moved 1000 Down 0 (at 0 540 1200 ∷ [])))
+held = run one_display (reverse (Open usual ∷ Windows 0 (whole 1 0 ∷ []) ∷ FocusOn 0 0 (Some 1) ∷ Receive 1 ∷ [] ++ moved 1000 Down 0 (at 0 540 1200 ∷ [])))
 
 one_message_is_no_more_than_one : is_choked 1 0 one_client held 1 ≡ false
 one_message_is_no_more_than_one = refl
@@ -118,7 +118,7 @@ abbrev second : Client
 second = record { channel = 2; generation = 2 }
 
 abbrev two : List Effect
-two = run one_display (reverse (Open 5000000 ∷ Open 5000000 ∷ FocusOn 0 0 (Some 1) ∷ FocusOn 0 1 (Some 2) ∷ []))
+two = run one_display (reverse (Open usual ∷ Open usual ∷ FocusOn 0 0 (Some 1) ∷ FocusOn 0 1 (Some 2) ∷ []))
 
 abbrev both : (choked : ℕ) → Wanted
 both choked = record { most = 1; windows = []; requested = Some first ∷ Some second ∷ None ∷ None ∷ []; asked = 1; choked = choked; is_shown = true }

@@ -61,7 +61,7 @@ last_goes ds now y w es old new k there same at other h =
 -- all else is the same
 pub rest_none : (s : LiveState) → SameRest s s
 rest_none s =
-    record { seats_are = refl; opened_is = refl; limit_is = refl; devices_are = refl; pending_is = refl; fingers_are = refl; named_is = refl; clock_is = refl }
+    record { seats_are = refl; opened_is = refl; terms_are = refl; devices_are = refl; pending_is = refl; fingers_are = refl; named_is = refl; clock_is = refl }
 
 pub rest_same : (s t : LiveState) → t ≡ s → SameRest s t
 rest_same s t e = subst (SameRest s) (sym e) (rest_none s)
@@ -71,7 +71,7 @@ rest_then s t u p q =
     record {
       seats_are = q.seats_are ∙ p.seats_are;
       opened_is = q.opened_is ∙ p.opened_is;
-      limit_is = q.limit_is ∙ p.limit_is;
+      terms_are = q.terms_are ∙ p.terms_are;
       devices_are = q.devices_are ∙ p.devices_are;
       pending_is = q.pending_is ∙ p.pending_is;
       fingers_are = q.fingers_are ∙ p.fingers_are;
@@ -86,7 +86,7 @@ rest_by now s t p named clock at =
     record {
       seats_are = p.seats_are;
       opened_is = p.opened_is;
-      limit_is = p.limit_is;
+      terms_are = p.terms_are;
       devices_are = p.devices_are;
       pending_is = p.pending_is;
       fingers_are = p.fingers_are;
@@ -95,22 +95,22 @@ rest_by now s t p named clock at =
     }
 
 pub clients_none : (s : LiveState) → SameClients s s
-clients_none s = record { seats_are = refl; opened_is = refl; limit_is = refl; devices_are = refl; pending_is = refl; fingers_are = refl }
+clients_none s = record { seats_are = refl; opened_is = refl; terms_are = refl; devices_are = refl; pending_is = refl; fingers_are = refl }
 
 pub clients_raised : (s t : LiveState) (n : ℕ) → t ≡ record s { clock = n } → SameClients s t
 clients_raised s t n e =
-    subst (SameClients s) (sym e) (record { seats_are = refl; opened_is = refl; limit_is = refl; devices_are = refl; pending_is = refl; fingers_are = refl })
+    subst (SameClients s) (sym e) (record { seats_are = refl; opened_is = refl; terms_are = refl; devices_are = refl; pending_is = refl; fingers_are = refl })
 
 pub clients_named : (s t : LiveState) (n : ℕ) → t ≡ record s { named = n } → SameClients s t
 clients_named s t n e =
-    subst (SameClients s) (sym e) (record { seats_are = refl; opened_is = refl; limit_is = refl; devices_are = refl; pending_is = refl; fingers_are = refl })
+    subst (SameClients s) (sym e) (record { seats_are = refl; opened_is = refl; terms_are = refl; devices_are = refl; pending_is = refl; fingers_are = refl })
 
 pub clients_both : (s t u : LiveState) → SameClients s t → SameClients t u → SameClients s u
 clients_both s t u p q =
     record {
       seats_are = q.seats_are ∙ p.seats_are;
       opened_is = q.opened_is ∙ p.opened_is;
-      limit_is = q.limit_is ∙ p.limit_is;
+      terms_are = q.terms_are ∙ p.terms_are;
       devices_are = q.devices_are ∙ p.devices_are;
       pending_is = q.pending_is ∙ p.pending_is;
       fingers_are = q.fingers_are ∙ p.fingers_are;
@@ -118,7 +118,7 @@ clients_both s t u p q =
 
 pub clients_rest : (s t : LiveState) → SameRest s t → SameClients s t
 clients_rest s t p =
-    record { seats_are = p.seats_are; opened_is = p.opened_is; limit_is = p.limit_is; devices_are = p.devices_are; pending_is = p.pending_is; fingers_are = p.fingers_are }
+    record { seats_are = p.seats_are; opened_is = p.opened_is; terms_are = p.terms_are; devices_are = p.devices_are; pending_is = p.pending_is; fingers_are = p.fingers_are }
 
 -- the first requests are made
 pub record AsksFirst (ds : List ℕ) (now n : ℕ) (es : List Effect) (w : Wanted) (old : LiveState) (s : Limited) : Type 0 where

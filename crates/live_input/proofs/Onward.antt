@@ -82,19 +82,19 @@ seats_after a b c x y =
     record {
       seats_are = y.seats_are ∙ x.seats_are;
       opened_is = y.opened_is ∙ x.opened_is;
-      limit_is = y.limit_is ∙ x.limit_is;
+      terms_are = y.terms_are ∙ x.terms_are;
       fingers_are = y.fingers_are ∙ x.fingers_are;
     }
 
 pub seats_of : (a b : LiveState) → SameClients a b → SameSeats a b
-seats_of a b x = record { seats_are = x.seats_are; opened_is = x.opened_is; limit_is = x.limit_is; fingers_are = x.fingers_are }
+seats_of a b x = record { seats_are = x.seats_are; opened_is = x.opened_is; terms_are = x.terms_are; fingers_are = x.fingers_are }
 
 pub holders_after : (a b c : LiveState) → SameClients a b → SameHolders b c → SameHolders a c
 holders_after a b c x y =
-    record { seats_are = y.seats_are ∙ x.seats_are; opened_is = y.opened_is ∙ x.opened_is; limit_is = y.limit_is ∙ x.limit_is }
+    record { seats_are = y.seats_are ∙ x.seats_are; opened_is = y.opened_is ∙ x.opened_is; terms_are = y.terms_are ∙ x.terms_are }
 
 pub holders_of : (a b : LiveState) → SameClients a b → SameHolders a b
-holders_of a b x = record { seats_are = x.seats_are; opened_is = x.opened_is; limit_is = x.limit_is }
+holders_of a b x = record { seats_are = x.seats_are; opened_is = x.opened_is; terms_are = x.terms_are }
 
 -- ---- easing reports those that become choked
 

@@ -4,6 +4,7 @@ use Rattle.std.specs.Prelude.{nat_le, nat_lt, is_some}
 use Rattle.std.specs.List.{list_any}
 use Rattle.std.proofs.lemmas.Bool.{and_from, and_parts, ltb-true, leb-true, le-leb, lt-leb, cases_Bool, true≢false}
 use Rattle.dispatch_calls.specs.declared.call.Call.TheVariants.{Open, FocusOn}
+use Rattle.dispatch_calls.specs.declared.terms.Terms.{Terms}
 use Rattle.focus_resolver.specs.Resolver.{all_displays, is_at}
 use Rattle.dispatch_history.specs.Effect.{Effect, past_of}
 use Rattle.dispatch_history.specs.Focus.{requested, asked}
@@ -34,11 +35,11 @@ held_opened es seats now c a same from to is =
     opened_at es c from (a.held c from to (ap (λ ss. is_held (seat_of ss c)) same ∙ is))
 
 -- opening a channel, by whether it was opened before
-pub opening_new : (ds : List ℕ) (limit c : ℕ) (es : List Effect) → opened (past_of es) < c → answered ds (Open limit) es ≡ opening ds limit c es
-opening_new ds limit c es lt = sym (ap (λ b. cond b es (answered ds (Open limit) es)) (lt-leb c (opened (past_of es)) lt))
+pub opening_new : (ds : List ℕ) (terms : Terms) (c : ℕ) (es : List Effect) → opened (past_of es) < c → answered ds (Open terms) es ≡ opening ds terms c es
+opening_new ds terms c es lt = sym (ap (λ b. cond b es (answered ds (Open terms) es)) (lt-leb c (opened (past_of es)) lt))
 
-pub opening_old : (ds : List ℕ) (limit c : ℕ) (es : List Effect) → c ≤ opened (past_of es) → es ≡ opening ds limit c es
-opening_old ds limit c es le = sym (ap (λ b. cond b es (answered ds (Open limit) es)) (le-leb c (opened (past_of es)) le))
+pub opening_old : (ds : List ℕ) (terms : Terms) (c : ℕ) (es : List Effect) → c ≤ opened (past_of es) → es ≡ opening ds terms c es
+opening_old ds terms c es le = sym (ap (λ b. cond b es (answered ds (Open terms) es)) (le-leb c (opened (past_of es)) le))
 
 -- all channels are held exactly if none is vacant
 some≢none : (c : ℕ) → Some c ≡ None → ⊥
@@ -100,7 +101,7 @@ open_held seats k e =
     let y = and_parts (nat_lt 0 k.channel) (nat_le k.channel 64) x.0 in
     (ltb-true 0 k.channel y.0, leb-true k.channel 64 y.1, holder_some k.generation (seat_of seats k.channel).holder x.1)
 
-pub opening_live : (ds : List ℕ) (limit other c : ℕ) (es : List Effect) (t : LiveState) → limit ≡ other → opened (past_of es) < c
-    → LiveIs ds (answered ds (Open limit) es) t → LiveIs ds (opening ds other c es) t
-opening_live ds limit other c es t e lt h =
-    subst (λ fs. LiveIs ds fs t) (opening_new ds limit c es lt ∙ ap (λ l. opening ds l c es) e) h
+pub opening_live : (ds : List ℕ) (terms other : Terms) (c : ℕ) (es : List Effect) (t : LiveState) → terms ≡ other → opened (past_of es) < c
+    → LiveIs ds (answered ds (Open terms) es) t → LiveIs ds (opening ds other c es) t
+opening_live ds terms other c es t e lt h =
+    subst (λ fs. LiveIs ds fs t) (opening_new ds terms c es lt ∙ ap (λ l. opening ds l c es) e) h

@@ -6,7 +6,7 @@ use Rattle.dispatch_calls.specs.declared.call.Call.TheVariants.{Open, Windows, R
 use Rattle.dispatch_history.specs.Effect.{Effect}
 use Rattle.dispatch_history.specs.Legal.{run}
 use Rattle.dispatch_history.specs.Ordered.{extend}
-use Rattle.dispatch_history.proofs.Worked.{at, moved, one_display, window}
+use Rattle.dispatch_history.proofs.Worked.{usual, at, moved, one_display, window}
 use Rattle.live_input.specs.Settling.{Follows}
 use Rattle.live_input.specs.Through.{next_through}
 
@@ -15,7 +15,7 @@ abbrev received_three : List Effect
 received_three =
     run one_display
     (reverse
-    (Open 5000000 ∷ Windows 0 (window 1 0 0 0 1080 2400 ∷ []) ∷ []
+    (Open usual ∷ Windows 0 (window 1 0 0 0 1080 2400 ∷ []) ∷ []
     ++ moved 1000 Down 0 (at 0 540 1200 ∷ [])
     ++ moved 2000 Move 0 (at 0 541 1200 ∷ [])
     ++ moved 3000 Move 0 (at 0 542 1200 ∷ [])

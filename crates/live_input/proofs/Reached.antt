@@ -17,7 +17,7 @@ use Rattle.dispatch_history.specs.Effect.{Effect, past_of}
 use Rattle.dispatch_history.specs.History.{live, snapshot}
 use Rattle.dispatch_history.specs.Legal.{run}
 use Rattle.dispatch_history.specs.Step.{scene}
-use Rattle.dispatch_history.proofs.Worked.{on, one_display, window}
+use Rattle.dispatch_history.proofs.Worked.{usual, on, one_display, window}
 use Rattle.dispatcher.proofs.DispatchTables.Ables.{live_number}
 use Rattle.live_input.specs.declared.client.Seat.{Seat}
 use Rattle.live_input.specs.Options.{no_options}
@@ -97,7 +97,7 @@ abbrev shown : List Window
 shown = window 65 0 540 0 1080 2400 ∷ window 1 0 0 0 540 1200 ∷ window 2 0 0 0 1080 2400 ∷ on 1 (window 3 0 0 0 100 100) ∷ []
 
 abbrev three : List Effect
-three = run one_display (Windows 0 shown ∷ Open 5000000 ∷ Open 5000000 ∷ Open 5000000 ∷ [])
+three = run one_display (Windows 0 shown ∷ Open usual ∷ Open usual ∷ Open usual ∷ [])
 
 abbrev seated : List Seat
 seated = taken_by 1 0 no_options ∷ taken_by 2 0 no_options ∷ taken_by 7 0 no_options ∷ []

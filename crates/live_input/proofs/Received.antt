@@ -13,7 +13,7 @@ use Rattle.dispatch_history.specs.Effect.{Effect, past_of, stream}
 use Rattle.dispatch_history.specs.History.{finished, finished_after, live, received, received_after}
 use Rattle.dispatch_history.specs.Legal.{answered, run}
 use Rattle.dispatch_history.specs.Reply.{got_reply, receive_reply, reply_to}
-use Rattle.dispatch_history.proofs.Worked.{at, moved, one_display, window}
+use Rattle.dispatch_history.proofs.Worked.{usual, at, moved, one_display, window}
 use Rattle.dispatcher.proofs.DispatchTables.Channels.{numbered}
 use Rattle.dispatcher.specs.Access.{got}
 use Rattle.dispatcher.specs.Memory.{MayCount}
@@ -153,7 +153,7 @@ abbrev touched : List Effect
 touched =
     run one_display
     (reverse
-    (Open 5000000 ∷ Windows 0 (window 1 0 0 0 1080 2400 ∷ []) ∷ [] ++ moved 1000 Down 0 (at 0 540 1200 ∷ []) ++ moved 2000 Move 0 (at 0 541 1200 ∷ [])))
+    (Open usual ∷ Windows 0 (window 1 0 0 0 1080 2400 ∷ []) ∷ [] ++ moved 1000 Down 0 (at 0 540 1200 ∷ []) ++ moved 2000 Move 0 (at 0 541 1200 ∷ [])))
 
 abbrev own : Seat
 own = taken_by 1 0 (record { user_data = 7; finishes = true })

@@ -10,7 +10,7 @@ use Rattle.input_types.specs.declared.message.Body.TheVariants.{Motion as Motion
 use Rattle.input_types.specs.declared.motion.Motion.{Motion}
 use Rattle.input_types.specs.declared.motion.MotionAction.TheVariants.{Outside}
 use Rattle.input_types.specs.declared.pointer.Pointer.{Pointer}
-use Rattle.key_repeat.specs.Due.{Sent, due_of, repeated}
+use Rattle.key_repeat.specs.Due.{Sent, due_by, repeated}
 use Rattle.window_snapshot.specs.Named.{is_named}
 use Rattle.routing_rules.specs.Cover.{under_all}
 use Rattle.routing_rules.specs.Marks.{Mark, covered}
@@ -25,7 +25,7 @@ use Rattle.dispatch_history.specs.Delivery.{able}
 use Rattle.dispatch_history.specs.Effect.{Effect, past_of}
 use Rattle.dispatch_history.specs.Effects.{step, said_at}
 use Rattle.dispatch_history.specs.Focus.{has_focus, is_target, focus_sent}
-use Rattle.dispatch_history.specs.History.{History, live, clock, snapshot, origin}
+use Rattle.dispatch_history.specs.History.{History, live, clock, snapshot, origin, repeats_of}
 use Rattle.dispatch_history.specs.Keys.{keys, loses_all, same_key}
 use Rattle.dispatch_history.specs.KeySent.{keys_sent, repeat_sent, last_key, while_held, repeat_due}
 use Rattle.dispatch_history.specs.Queue.{inbound, args_of}
@@ -102,8 +102,8 @@ none_repeated es (Some s) w (Pump now) Repeated known none reply = by_channel (w
   where
     not_due : (w == s.channel) ≡ true → repeat_due es ≡ None
     not_due same =
-        ap (λ o. due_of (while_held es o)) known
-        ∙ ap (λ ks. due_of (cond (list_any (same_key s.key.key) ks) (Some s) None))
+        ap (λ o. due_by (repeats_of (past_of es)) (while_held es o)) known
+        ∙ ap (λ ks. due_by (repeats_of (past_of es)) (cond (list_any (same_key s.key.key) ks) (Some s) None))
         (ap (keys es) (sym (eqb-true w s.channel same)) ∙ none)
 
     never : (waiting : List Args) (now : ℕ) → pump_reply waiting None now ≡ Repeated → ⊥

@@ -5,6 +5,7 @@ use Rattle.std.proofs.lemmas.List.{get_or-set_same, get_or-set_other, length-set
 use Rattle.window_snapshot.specs.declared.window.Window.{Window}
 use Rattle.dispatch_calls.specs.declared.call.Call.{Call}
 use Rattle.dispatch_calls.specs.declared.call.Call.TheVariants.{Open, Windows, FocusOn, Remove}
+use Rattle.dispatch_calls.specs.declared.terms.Terms.{Terms}
 use Rattle.dispatch_calls.specs.declared.reply.Reply.{Reply}
 use Rattle.dispatch_calls.specs.declared.reply.Reply.TheVariants.{Opened, Full}
 use Rattle.dispatch_history.specs.Effect.{Effect, past_of}
@@ -41,11 +42,11 @@ plain_asked (FocusOn now display channel) before e = absurd (true≢false (sym e
 plain_asked call before e = refl
 
 plain_opened : (call : Call) (answer : Reply) (n : ℕ) → is_plain call ≡ true → opened_after call answer n ≡ n
-plain_opened (Open limit) answer n e = absurd (true≢false (sym e))
+plain_opened (Open terms) answer n e = absurd (true≢false (sym e))
 plain_opened call answer n e = refl
 
 plain_live : (call : Call) (answer : Reply) (c : ℕ) (before : Bool) → is_plain call ≡ true → live_after call answer c before ≡ before
-plain_live (Open limit) answer c before e = absurd (true≢false (sym e))
+plain_live (Open terms) answer c before e = absurd (true≢false (sym e))
 plain_live (Remove now k) answer c before e = absurd (true≢false (sym e))
 plain_live call answer c before e = refl
 
@@ -107,7 +108,7 @@ module _ (ds : List ℕ) (es : List Effect) (s : LiveState) (h : LiveIs ds es s)
             tenants_more ds call r es s.seats (lawful_of stands) h.tenants_are
             (λ c few named. h.tenants_are.shown c few (ap (λ ws. is_named ws c) (sym (plain_windows call (snapshot h0) plain)) ∙ named))
             (λ y low. subst (λ o. IsOfSome o s.seats) (sym (plain_requested call y (requested h0 y) plain)) (h.tenants_are.asked y low))
-            (λ c low high none. part_none s.seats call r c own none (λ limit k e f. absurd (true≢false (sym plain ∙ ap is_plain e))))
+            (λ c low high none. part_none s.seats call r c own none (λ terms k e f. absurd (true≢false (sym plain ∙ ap is_plain e))))
             (λ c lt le silent. let same_count = plain_opened call r (opened h0) plain in absurd (omega (arith, lt, le, same_count)));
         named_are = h.named_are;
         release = release;
@@ -193,20 +194,20 @@ module _ (ds : List ℕ) (es : List Effect) (s : LiveState) (h : LiveIs ds es s)
       (sym at) (request_goes now y channel answer low own stands release t steps)
 
   -- the first channel that was not opened yet is opened
-  pub open_goes : (limit : ℕ) (answer : Reply) → opened (past_of es) < 64
-      → StandsFor (step s.dispatcher.displays (Open limit) answer es) d → AreReleased (answered ds (Open limit) es) d
-      → (t : Steps) → StepsAre (answered ds (Open limit) es) t
-      → (opened (past_of (answered ds (Open limit) es)) ≡ suc (opened (past_of es)))
-      × LiveIs ds (answered ds (Open limit) es) (record s { dispatcher = d; steps = t })
-  open_goes limit answer few stands release t steps =
+  pub open_goes : (terms : Terms) (answer : Reply) → opened (past_of es) < 64
+      → StandsFor (step s.dispatcher.displays (Open terms) answer es) d → AreReleased (answered ds (Open terms) es) d
+      → (t : Steps) → StepsAre (answered ds (Open terms) es) t
+      → (opened (past_of (answered ds (Open terms) es)) ≡ suc (opened (past_of es)))
+      × LiveIs ds (answered ds (Open terms) es) (record s { dispatcher = d; steps = t })
+  open_goes terms answer few stands release t steps =
       let h0 = past_of es in
       let n = opened h0 in
-      let there = stands_more (Open limit) answer stands in
+      let there = stands_more (Open terms) answer stands in
       let fits : open_reply n ≡ Opened (n + 1) = ap (λ b. cond b (Opened (n + 1)) Full) (lt-ltb n 64 few) in
-      let P : Reply → Type 0 = λ r. StandsFor (step ds (Open limit) r es) d → AreReleased (step ds (Open limit) r es) d → StepsAre (step ds (Open limit) r es) t → (opened ((Open limit, r) ∷ h0) ≡ suc n) × LiveIs ds (step ds (Open limit) r es) (record s { dispatcher = d; steps = t }) in
+      let P : Reply → Type 0 = λ r. StandsFor (step ds (Open terms) r es) d → AreReleased (step ds (Open terms) r es) d → StepsAre (step ds (Open terms) r es) t → (opened ((Open terms, r) ∷ h0) ≡ suc n) × LiveIs ds (step ds (Open terms) r es) (record s { dispatcher = d; steps = t }) in
       subst P (sym fits) by_opened there.1 release steps
     where
-      opens : (c : ℕ) → 1 ≤ c → c ≤ suc (opened (past_of es)) → live ((Open limit, Opened (opened (past_of es) + 1)) ∷ past_of es) c ≡ true
+      opens : (c : ℕ) → 1 ≤ c → c ≤ suc (opened (past_of es)) → live ((Open terms, Opened (opened (past_of es) + 1)) ∷ past_of es) c ≡ true
       opens c low high =
           elim (cases_eq c (opened (past_of es) + 1)) [
             | inl e ↦ or_left (c == opened (past_of es) + 1) (live (past_of es) c) (eq-eqb c (opened (past_of es) + 1) e)
@@ -217,10 +218,10 @@ module _ (ds : List ℕ) (es : List Effect) (s : LiveState) (h : LiveIs ds es s)
           below c n high ne =
               elim (cases_lt n c) [ inl gt ↦ absurd (ne (omega (arith, high, gt))) | inr le ↦ le ]
 
-      by_opened : StandsFor (step ds (Open limit) (Opened (opened (past_of es) + 1)) es) d
-          → AreReleased (step ds (Open limit) (Opened (opened (past_of es) + 1)) es) d
-          → StepsAre (step ds (Open limit) (Opened (opened (past_of es) + 1)) es) t
-          → (suc (opened (past_of es)) ≡ suc (opened (past_of es))) × LiveIs ds (step ds (Open limit) (Opened (opened (past_of es) + 1)) es) (record s { dispatcher = d; steps = t })
+      by_opened : StandsFor (step ds (Open terms) (Opened (opened (past_of es) + 1)) es) d
+          → AreReleased (step ds (Open terms) (Opened (opened (past_of es) + 1)) es) d
+          → StepsAre (step ds (Open terms) (Opened (opened (past_of es) + 1)) es) t
+          → (suc (opened (past_of es)) ≡ suc (opened (past_of es))) × LiveIs ds (step ds (Open terms) (Opened (opened (past_of es) + 1)) es) (record s { dispatcher = d; steps = t })
       by_opened stands release steps = (
         refl,
         record {
@@ -228,7 +229,7 @@ module _ (ds : List ℕ) (es : List Effect) (s : LiveState) (h : LiveIs ds es s)
           displays_are = same ∙ h.displays_are;
           windows_are = h.windows_are;
           requests_are =
-              same_requests (past_of es) ((Open limit, Opened (opened (past_of es) + 1)) ∷ past_of es) s.requested s.asked (λ y. refl) refl
+              same_requests (past_of es) ((Open terms, Opened (opened (past_of es) + 1)) ∷ past_of es) s.requested s.asked (λ y. refl) refl
               h.requests_are;
           seats_are =
               record {
@@ -237,10 +238,10 @@ module _ (ds : List ℕ) (es : List Effect) (s : LiveState) (h : LiveIs ds es s)
                 held = λ c low high is. let x = h.seats_are.held c low high is in omega (arith, x);
               };
           tenants_are =
-              tenants_more ds (Open limit) (Opened (opened (past_of es) + 1)) es s.seats (lawful_of stands) h.tenants_are h.tenants_are.shown
+              tenants_more ds (Open terms) (Opened (opened (past_of es) + 1)) es s.seats (lawful_of stands) h.tenants_are h.tenants_are.shown
               h.tenants_are.asked
-              (λ c low high none. ap (λ b. cond b (Opens limit) Untouched) (ne_eqb c (opened (past_of es) + 1) (λ e. absurd (omega (arith, high, e)))))
-              (λ c lt le silent. done_new ds limit (opened (past_of es) + 1) es c (lawful_of stands) silent lt);
+              (λ c low high none. ap (λ b. cond b (Opens terms) Untouched) (ne_eqb c (opened (past_of es) + 1) (λ e. absurd (omega (arith, high, e)))))
+              (λ c lt le silent. done_new ds terms (opened (past_of es) + 1) es c (lawful_of stands) silent lt);
           named_are = h.named_are;
           release = release;
           steps_are = steps;

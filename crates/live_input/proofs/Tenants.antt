@@ -10,13 +10,14 @@ use Rattle.window_snapshot.specs.declared.window.Window.{Window}
 use Rattle.window_snapshot.specs.Named.{is_named}
 use Rattle.dispatch_calls.specs.declared.call.Call.{Call}
 use Rattle.dispatch_calls.specs.declared.call.Call.TheVariants.{Open, Receive, Finish}
+use Rattle.dispatch_calls.specs.declared.terms.Terms.{Terms}
 use Rattle.dispatch_calls.specs.declared.reply.Reply.{Reply}
 use Rattle.dispatch_calls.specs.declared.reply.Reply.TheVariants.{Opened, Done, Got}
 use Rattle.dispatch_history.specs.Delivery.{unfinished}
 use Rattle.dispatch_history.specs.Effect.{Effect, past_of, stream, sent_on, sent_to}
 use Rattle.dispatch_history.specs.Effects.{step, said_at, sent_by}
 use Rattle.dispatch_history.specs.Focus.{requested, requested_after}
-use Rattle.dispatch_history.specs.History.{clock, opened, opened_after, received, received_after, snapshot, windows_after}
+use Rattle.dispatch_history.specs.History.{clock, no_terms, opened, opened_after, received, received_after, snapshot, windows_after}
 use Rattle.dispatch_history.specs.PointerOf.{AllRise}
 use Rattle.dispatcher.specs.DispatchTables.Channel.{Opens, Receives, Finishes, Untouched, part_of, with_part, channel_at, enqueued_all}
 use Rattle.dispatcher.specs.DispatchTables.Lawful.{Lawful}
@@ -86,23 +87,23 @@ done_more ds call answer es c l none untouched d =
     (ap (map _) d.finished_all)
 
 -- one that is opened is done
-fresh : (b : Bool) (limit now : ℕ) → let s = published_at now (with_part (cond b (Opens limit) Untouched) (opened_with 0)) in
+fresh : (b : Bool) (terms : Terms) (now : ℕ) → let s = published_at now (with_part (cond b (Opens terms) Untouched) (opened_with no_terms)) in
     (s.received ≡ length s.messages) × (s.unfinished ≡ [])
-fresh true limit now = (refl, refl)
-fresh false limit now = (refl, refl)
+fresh true terms now = (refl, refl)
+fresh false terms now = (refl, refl)
 
-pub done_new : (ds : List ℕ) (limit k : ℕ) (es : List Effect) (c : ℕ) → Lawful ds (step ds (Open limit) (Opened k) es)
-    → said_at ds (Open limit) (Opened k) es c ≡ [] → opened (past_of es) < c → IsDone (step ds (Open limit) (Opened k) es) c
-done_new ds limit k es c l none lt =
-    let fs = step ds (Open limit) (Opened k) es in
+pub done_new : (ds : List ℕ) (terms : Terms) (k : ℕ) (es : List Effect) (c : ℕ) → Lawful ds (step ds (Open terms) (Opened k) es)
+    → said_at ds (Open terms) (Opened k) es c ≡ [] → opened (past_of es) < c → IsDone (step ds (Open terms) (Opened k) es) c
+done_new ds terms k es c l none lt =
+    let fs = step ds (Open terms) (Opened k) es in
     let now = clock (past_of fs) in
-    let part = part_of (Open limit) (Opened k) c in
-    let new = fresh (c == k) limit now in
-    done_by fs c (published_at now (with_part part (opened_with 0)))
-    (ap (λ n. channel_at fs c 0 n) (spare_none (length (said_at ds (Open limit) (Opened k) es c)))
-    ∙ channel_step ds (Open limit) (Opened k) es c 0 0 l (omega arith)
+    let part = part_of (Open terms) (Opened k) c in
+    let new = fresh (c == k) terms now in
+    done_by fs c (published_at now (with_part part (opened_with no_terms)))
+    (ap (λ n. channel_at fs c 0 n) (spare_none (length (said_at ds (Open terms) (Opened k) es c)))
+    ∙ channel_step ds (Open terms) (Opened k) es c 0 0 l (omega arith)
     ∙ ap₂ (λ bs s. published_at now (enqueued_all bs now (with_part part s))) none
-    (unopened_law ds es c (lawful_last ds (Open limit) (Opened k) es l).1 lt))
+    (unopened_law ds es c (lawful_last ds (Open terms) (Opened k) es l).1 lt))
     new.0 new.1
   where
     spare_none : (n : ℕ) → 0 ≡ 0 - n
@@ -126,8 +127,8 @@ not_asked seats c None e h = refl
 not_asked seats c (Some d) e h = held_other seats c d h e
 
 pub part_none : (seats : List Seat) (call : Call) (answer : Reply) (c : ℕ) → IsOfHeld seats call → is_held (seat_of seats c) ≡ false
-    → ((limit : ℕ) → (k : ℕ) → call ≡ Open limit → answer ≡ Opened k → (c == k) ≡ false) → part_of call answer c ≡ Untouched
-part_none seats (Open limit) (Opened k) c own e new = ap (λ b. cond b (Opens limit) Untouched) (new limit k refl refl)
+    → ((terms : Terms) → (k : ℕ) → call ≡ Open terms → answer ≡ Opened k → (c == k) ≡ false) → part_of call answer c ≡ Untouched
+part_none seats (Open terms) (Opened k) c own e new = ap (λ b. cond b (Opens terms) Untouched) (new terms k refl refl)
 part_none seats (Receive k) (Got m) c own e new = ap (λ b. cond b Receives Untouched) (held_other seats c k own e)
 part_none seats (Finish now k seq) Done c own e new = ap (λ b. cond b (Finishes seq) Untouched) (held_other seats c k own e)
 part_none seats call answer c own e new = refl

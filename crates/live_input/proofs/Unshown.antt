@@ -125,7 +125,7 @@ no_keys ds w = lawful_always ds (HoldsNone w) (λ e. refl) (λ call answer es l 
   where
     by_call : (call : Call) (answer : Reply) (es : List Effect) → HoldsNone w es → HoldsNone w (step ds call answer es)
     by_call (Pump now) answer es before = λ t. was_none ds w (Pump now) answer es t (before t)
-    by_call (Open limit) answer es before = keys_step ds w (Open limit) answer es before refl
+    by_call (Open terms) answer es before = keys_step ds w (Open terms) answer es before refl
     by_call (Windows now ws) answer es before = keys_step ds w (Windows now ws) answer es before refl
     by_call (FocusOn now y c) answer es before = keys_step ds w (FocusOn now y c) answer es before refl
     by_call (Notify now a) answer es before = keys_step ds w (Notify now a) answer es before refl

@@ -6,7 +6,7 @@ use Rattle.dispatch_calls.specs.declared.call.Call.{Call}
 use Rattle.dispatch_calls.specs.declared.call.Call.TheVariants.{Open, Windows, Receive, Finish}
 use Rattle.dispatch_history.specs.Effect.{Effect, stream}
 use Rattle.dispatch_history.specs.Legal.{run}
-use Rattle.dispatch_history.proofs.Worked.{at, motion, moved, one_display, says, window}
+use Rattle.dispatch_history.proofs.Worked.{usual, at, motion, moved, one_display, says, window}
 use Rattle.live_input.specs.Options.{no_options}
 use Rattle.live_input.specs.Outgoing.{sent_since}
 use Rattle.live_input.specs.Seats.{taken_by}
@@ -19,7 +19,7 @@ shown = window 1 0 0 0 1080 2400
 -- one goes down.
 abbrev closed_under_a_finger : List Call
 closed_under_a_finger =
-    Open 5000000 ∷ Windows 0 (shown ∷ []) ∷ [] ++ moved 1000 Down 0 (at 0 540 1200 ∷ [])
+    Open usual ∷ Windows 0 (shown ∷ []) ∷ [] ++ moved 1000 Down 0 (at 0 540 1200 ∷ [])
     ++ Windows 2000 [] ∷ Receive 1 ∷ Finish 2000 1 1 ∷ Receive 1 ∷ Finish 2000 1 2 ∷ Windows 3000 (shown ∷ []) ∷ []
     ++ moved 4000 Up 0 (at 0 540 1200 ∷ []) ++ moved 5000 Down 0 (at 0 100 200 ∷ [])
 
@@ -30,7 +30,7 @@ the_second_client_gets_its_own_finger_alone = refl
 
 -- The same finger, and the calls that close the first client: its window goes, and it is handed and finishes the DOWN and the CANCEL.
 abbrev under_a_finger : List Effect
-under_a_finger = run one_display (reverse (Open 5000000 ∷ Windows 0 (shown ∷ []) ∷ [] ++ moved 1000 Down 0 (at 0 540 1200 ∷ [])))
+under_a_finger = run one_display (reverse (Open usual ∷ Windows 0 (shown ∷ []) ∷ [] ++ moved 1000 Down 0 (at 0 540 1200 ∷ [])))
 
 abbrev closing : List Call
 closing = Windows 2000 [] ∷ Receive 1 ∷ Finish 2000 1 1 ∷ Receive 1 ∷ Finish 2000 1 2 ∷ []

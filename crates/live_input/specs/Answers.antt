@@ -40,12 +40,12 @@ abbrev pub handed : Seat → Option Message → Option Message
 handed s None = None
 handed s (Some m) = Some (for_client s m)
 
--- The clients and the devices are the same, and so are the limit, what must still be handed in, and the single fingers of
+-- The clients and the devices are the same, and so are the terms, what must still be handed in, and the single fingers of
 -- panels.
 pub record SameClients (old new : LiveState) : Type 0 where
   pub seats_are : new.seats ≡ old.seats
   pub opened_is : new.opened ≡ old.opened
-  pub limit_is : new.limit ≡ old.limit
+  pub terms_are : new.terms ≡ old.terms
   pub devices_are : new.devices ≡ old.devices
   pub pending_is : new.pending ≡ old.pending
   pub fingers_are : new.fingers ≡ old.fingers
@@ -54,18 +54,18 @@ pub record SameClients (old new : LiveState) : Type 0 where
 pub record SameRest (old new : LiveState) : Type 0 where
   pub seats_are : new.seats ≡ old.seats
   pub opened_is : new.opened ≡ old.opened
-  pub limit_is : new.limit ≡ old.limit
+  pub terms_are : new.terms ≡ old.terms
   pub devices_are : new.devices ≡ old.devices
   pub pending_is : new.pending ≡ old.pending
   pub fingers_are : new.fingers ≡ old.fingers
   pub named_is : new.named ≡ old.named
   pub clock_is : new.clock ≡ old.clock
 
--- The clients are the same, and so are the limit and the single fingers of panels.
+-- The clients are the same, and so are the terms and the single fingers of panels.
 pub record SameSeats (old new : LiveState) : Type 0 where
   pub seats_are : new.seats ≡ old.seats
   pub opened_is : new.opened ≡ old.opened
-  pub limit_is : new.limit ≡ old.limit
+  pub terms_are : new.terms ≡ old.terms
   pub fingers_are : new.fingers ≡ old.fingers
 
 -- The call was made: the service stands for the history with it, and the clock is its moment.

@@ -81,11 +81,11 @@ pub record TakesPart (plan : DevicePlan) (past events : List RawEvent) (device :
   pub events_are : events ≡ first ++ next ∷ later
   pub takes : Takes plan past first device old new
 
--- the clients are the same, and so is the limit
+-- the clients are the same, and so are the terms
 pub record SameHolders (old new : LiveState) : Type 0 where
   pub seats_are : new.seats ≡ old.seats
   pub opened_is : new.opened ≡ old.opened
-  pub limit_is : new.limit ≡ old.limit
+  pub terms_are : new.terms ≡ old.terms
 
 -- the readers of the other devices are as they were
 abbrev pub OthersStay : (device : ℕ) → (old new : LiveState) → Type 0

@@ -2,6 +2,7 @@
 use Rattle.std.specs.Prelude.{ℕ, ◌≡◌, true, ◌==◌, ◌&&◌, not, ◌+◌, ◌≤◌, nat_le, List, length, Some, Result, Ok, Err, if◌then◌else◌}
 use Rattle.window_snapshot.specs.Mask.{mask_has}
 use Rattle.dispatch_calls.specs.declared.call.Call.TheVariants.{Open}
+use Rattle.dispatch_calls.specs.declared.terms.Terms.{Terms}
 use Rattle.dispatch_history.specs.Delivery.{able}
 use Rattle.dispatch_history.specs.Effect.{Effect, past_of, stream}
 use Rattle.dispatch_history.specs.Focus.{asked}
@@ -20,9 +21,9 @@ use Rattle.live_input.specs.Standing.{LiveIs}
 use Rattle.live_input.specs.State.{LiveState}
 use Rattle.live_input.specs.Taking.{TakenInPart}
 
--- a channel that was opened before is used again, and another one is opened
-abbrev pub opening : List ℕ → (limit channel : ℕ) → List Effect → List Effect
-opening displays limit c es = if nat_le c (opened (past_of es)) then es else answered displays (Open limit) es
+-- a channel that was opened before is used again, and another one is opened on these terms
+abbrev pub opening : List ℕ → Terms → (channel : ℕ) → List Effect → List Effect
+opening displays terms c es = if nat_le c (opened (past_of es)) then es else answered displays (Open terms) es
 
 -- The client has the first vacant channel, a generation that no earlier client had, and these options. The other seats
 -- stay as they are.
@@ -33,7 +34,7 @@ pub record OpensWith (options : Options) (client : Client) (old new : LiveState)
   pub before : ℕ
   pub seats_are :
       new.seats ≡ with_seat client.channel (taken_by client.generation before options) old.seats
-  pub limit_is : new.limit ≡ old.limit
+  pub terms_are : new.terms ≡ old.terms
   pub named_is : new.named ≡ old.named
   pub clock_is : new.clock ≡ old.clock
   pub devices_are : new.devices ≡ old.devices
@@ -53,9 +54,9 @@ pub record IsNext (c : ℕ) (es : List Effect) : Type 0 where
 -- After that the service stands for the history with the call that opens the channel, if any, and the client's seat
 -- says how many messages of the channel are from before it. The client can be given input at once.
 pub record OpensOn (displays : List ℕ) (es : List Effect) (client : Client) (old new : LiveState) : Type 0 where
-  pub is : LiveIs displays (opening displays old.limit client.channel es) new
-  pub before_is : (seat_of new.seats client.channel).before ≡ length (stream (opening displays old.limit client.channel es) client.channel)
-  pub able_is : able (opening displays old.limit client.channel es) client.channel ≡ true
+  pub is : LiveIs displays (opening displays old.terms client.channel es) new
+  pub before_is : (seat_of new.seats client.channel).before ≡ length (stream (opening displays old.terms client.channel es) client.channel)
+  pub able_is : able (opening displays old.terms client.channel es) client.channel ≡ true
 
 -- Closing vacates the seat of the client and leaves all others as they are. A report of the client that was not answered yet is dropped.
 pub record Closes (client : Client) (old new : LiveState) : Type 0 where
@@ -63,7 +64,7 @@ pub record Closes (client : Client) (old new : LiveState) : Type 0 where
       new.seats
       ≡ with_seat client.channel (left_vacant (seat_of old.seats client.channel).before) old.seats
   pub opened_is : new.opened ≡ old.opened
-  pub limit_is : new.limit ≡ old.limit
+  pub terms_are : new.terms ≡ old.terms
   pub devices_are : new.devices ≡ old.devices
   pub pending_is : new.pending ≡ old.pending
   pub fingers_are : new.fingers ≡ old.fingers

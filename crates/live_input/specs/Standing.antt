@@ -87,7 +87,7 @@ pub record LiveIs (displays : List ℕ) (es : List Effect) (s : LiveState) : Typ
 
 -- a call that shows no windows, requests no focus, and neither opens nor removes a channel
 abbrev pub is_plain : Call → Bool
-is_plain (Open limit) = false
+is_plain (Open terms) = false
 is_plain (Windows now snapshot) = false
 is_plain (FocusOn now display channel) = false
 is_plain (Remove now channel) = false

@@ -104,16 +104,16 @@ impl Live {
     /// changes.
     fn open_channel(&mut self, channel: u32) -> Result<u64, AllocError>
         ensures after { (ds : List ℕ) (es : List Effect) → LiveIs ds es self.old → IsNext channel es
-            → OnOk result (LiveIs ds (opening ds self.old.limit channel es) self.new) }
+            → OnOk result (LiveIs ds (opening ds self.old.terms channel es) self.new) }
         ensures opened { (ds : List ℕ) (es : List Effect) → LiveIs ds es self.old → IsNext channel es
-            → OnOk result (channel ≤ opened (past_of (opening ds self.old.limit channel es))) }
+            → OnOk result (channel ≤ opened (past_of (opening ds self.old.terms channel es))) }
         ensures sent { (ds : List ℕ) (es : List Effect) → LiveIs ds es self.old → IsNext channel es
-            → IfOk result (λ n. n ≡ length (stream (opening ds self.old.limit channel es) channel)) }
+            → IfOk result (λ n. n ≡ length (stream (opening ds self.old.terms channel es) channel)) }
         ensures rest { self.new ≡ record self.old { dispatcher = self.new.dispatcher; steps = self.new.steps } }
         ensures err { OnErr result (self.new ≡ self.old) }
     {
         if self.dispatcher.opened() < channel {
-            let call = Call::Open { limit: self.limit };
+            let call = Call::Open { terms: self.terms };
             match self.dispatcher.apply(&call) {
                 Ok(_) => {
                     self.steps.go(&self.dispatcher, &call);

@@ -41,6 +41,7 @@ mod feeding;
 pub mod fingers;
 pub mod finishes;
 mod giving;
+mod keys_down;
 pub mod laws;
 mod limit;
 mod limited;

@@ -19,16 +19,18 @@ use crate::client::Client;
 use crate::limit::{Limited, Wanted, has_window};
 use crate::live::Live;
 use crate::refused::CloseRefused;
-use input_types::{Displays, Limit, Moment};
+use dispatch_calls::Terms;
+use input_types::{Displays, Moment};
 use std::alloc::{AllocError, Global};
 use window_snapshot::{mask_has, mask_without};
 
 impl Limited {
-    /// A service without clients, whose devices are on these displays. A client that leaves a message unfinished for
-    /// the limit is reported unresponsive; one that leaves more than 10,000 messages unreceived is choked.
-    pub fn new(alloc: Global, limit: Limit, displays: &Displays) -> Result<Limited, AllocError>
+    /// A service without clients, whose devices are on these displays. All its channels are opened on these terms: a
+    /// client that leaves a message unfinished for the limit is reported unresponsive, and keys that its window holds
+    /// are repeated after these delays, or never. A client that leaves more than 10,000 messages unreceived is choked.
+    pub fn new(alloc: Global, terms: Terms, displays: &Displays) -> Result<Limited, AllocError>
         ensures start { IfOk result (λ s. LiveIs displays.now [] s.live) }
-        ensures limit { IfOk result (λ s. s.live.limit ≡ limit) }
+        ensures terms { IfOk result (λ s. s.live.terms ≡ terms) }
         ensures clock { IfOk result (λ s. s.live.clock ≡ 0) }
         ensures seats { IfOk result (λ s. s.live.seats ≡ replicate 64 vacant) }
         ensures opened { IfOk result (λ s. s.live.opened ≡ 0) }
@@ -38,7 +40,7 @@ impl Limited {
         ensures fingers { IfOk result (λ s. s.live.fingers ≡ replicate 8 (none_down 0)) }
         ensures wanted { IfOk result (λ s. s.wanted ≡ first_wanted 10000) }
     {
-        let live = Live::new(alloc, limit, displays)?;
+        let live = Live::new(alloc, terms, displays)?;
         Ok(Limited {
             live,
             wanted: Wanted::new(alloc, 10_000),

@@ -19,9 +19,9 @@ use crate::releasing::release_after;
 use crate::slots::Fingers;
 use crate::steps::Steps;
 use device_table::DeviceTable;
-use dispatch_calls::{Call, Reply};
+use dispatch_calls::{Call, Reply, Terms};
 use dispatcher::{Dispatcher, Outcome};
-use input_types::{Args, DisplayId, Displays, Limit, Moment};
+use input_types::{Args, DisplayId, Displays, Moment};
 use std::alloc::{AllocError, Global};
 use std::marker::Model;
 use window_snapshot::Snapshot;
@@ -33,7 +33,8 @@ use window_snapshot::Snapshot;
 #[derive(Drop)]
 pub struct Live {
     pub(crate) alloc: Global,
-    pub(crate) limit: Limit,
+    /// What each channel is opened with.
+    pub(crate) terms: Terms,
     /// The latest moment that was handed in.
     pub(crate) clock: Moment,
     pub(crate) dispatcher: Dispatcher,
@@ -62,7 +63,7 @@ impl Model for Live {
     ghost Value = { LiveState };
 
     ghost view = { λ l. record {
-      limit = l.limit;
+      terms = l.terms;
       clock = l.clock;
       dispatcher = l.dispatcher;
       seats = l.seats;
@@ -79,11 +80,12 @@ impl Model for Live {
 }
 
 impl Live {
-    /// A service without clients, whose devices are on these displays. A client that leaves a message unfinished for
-    /// the limit is reported unresponsive.
-    pub fn new(alloc: Global, limit: Limit, displays: &Displays) -> Result<Live, AllocError>
+    /// A service without clients, whose devices are on these displays. All its channels are opened on these terms: a
+    /// client that leaves a message unfinished for the limit is reported unresponsive, and keys that its window holds
+    /// are repeated after these delays, or never.
+    pub fn new(alloc: Global, terms: Terms, displays: &Displays) -> Result<Live, AllocError>
         ensures start { IfOk result (λ l. LiveIs displays.now [] l) }
-        ensures limit { IfOk result (λ l. l.limit ≡ limit) }
+        ensures terms { IfOk result (λ l. l.terms ≡ terms) }
         ensures clock { IfOk result (λ l. l.clock ≡ 0) }
         ensures seats { IfOk result (λ l. l.seats ≡ replicate 64 vacant) }
         ensures opened { IfOk result (λ l. l.opened ≡ 0) }
@@ -95,7 +97,7 @@ impl Live {
         let dispatcher = Dispatcher::new(alloc, displays)?;
         Ok(Live {
             alloc,
-            limit,
+            terms,
             clock: Moment::zero(),
             dispatcher,
             seats: vacant(),

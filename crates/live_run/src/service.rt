@@ -1,6 +1,8 @@
 //! A service with a panel: packets go in, and clients take what they are sent.
 use device_reader::touch_mapper::Cook;
+use dispatch_calls::Terms;
 use input_types::{Axis, DeviceId, DisplayId, Displays, Limit, Message, Moment, Rotation};
+use key_repeat::Repeats;
 use live_input::{Client, ClientWindow, Limited, WindowInfo};
 use raw_events::codes::{
     ABS_MT_POSITION_X, ABS_MT_POSITION_Y, ABS_MT_SLOT, ABS_MT_TRACKING_ID, EV_ABS, EV_SYN,
@@ -68,8 +70,11 @@ fn seq_of(message: &Message) -> Option<u64> {
 impl Service {
     /// A service without clients. A client may leave a message unfinished for five seconds.
     pub(crate) fn new(alloc: Global) -> Option<Service> {
-        let limit = Limit::new(5_000_000)?;
-        match Limited::new(alloc, limit, &Displays::new()) {
+        let terms = Terms {
+            limit: Limit::new(5_000_000)?,
+            repeats: Some(Repeats::android()),
+        };
+        match Limited::new(alloc, terms, &Displays::new()) {
             Ok(live) => with_panel(alloc, live),
             Err(_) => None,
         }

@@ -8,6 +8,7 @@ use Rattle.plain_calls.specs.Clients.{maybe_client}
 use Rattle.plain_calls.specs.Layouts.{by_line}
 use Rattle.plain_calls.specs.Numbers.{device_of, display_of, limit_of, moment_of}
 use Rattle.plain_calls.specs.Plain.{pointers_from}
+use Rattle.plain_calls.specs.Repeats.{repeats_of, terms_of}
 
 -- devices are 1 to 8, displays 0 to 3
 first_device : device_of 1 ≡ Some 1
@@ -37,6 +38,30 @@ longest_limit = refl
 
 too_short : limit_of 999 ≡ None
 too_short = refl
+
+-- both delays of repeats are 0, or each is a millisecond to ten minutes
+no_repeats : repeats_of (record { first_us = 0; next_us = 0 }) ≡ Some None
+no_repeats = refl
+
+shortest_repeats : repeats_of (record { first_us = 1000; next_us = 1000 }) ≡ Some (Some (record { first = 1000; next = 1000 }))
+shortest_repeats = refl
+
+repeated_once : repeats_of (record { first_us = 500000; next_us = 0 }) ≡ None
+repeated_once = refl
+
+at_once : repeats_of (record { first_us = 999; next_us = 50000 }) ≡ None
+at_once = refl
+
+too_slow : repeats_of (record { first_us = 500000; next_us = 600000001 }) ≡ None
+too_slow = refl
+
+usual_terms :
+    terms_of 5000000 (record { first_us = 500000; next_us = 50000 })
+    ≡ Some (record { limit = 5000000; repeats = Some (record { first = 500000; next = 50000 }) })
+usual_terms = refl
+
+no_limit : terms_of 999 (record { first_us = 0; next_us = 0 }) ≡ None
+no_limit = refl
 
 -- channel 0 belongs to no client
 nobody : maybe_client (record { generation = 7; channel = 0 }) ≡ None

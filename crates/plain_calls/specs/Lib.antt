@@ -21,3 +21,5 @@ pub mod Through
 pub mod NextAny
 pub mod Fingers
 pub mod Pointing
+pub mod KeysDown
+pub mod Repeats

@@ -55,7 +55,7 @@ pub(crate) fn occlusion_of(number: u8) -> Option<Occlusion>
 }
 
 /// The limit with this many microseconds, if it is 1,000 to 600,000,000.
-pub fn limit_of(us: u64) -> Option<Limit>
+pub(crate) fn limit_of(us: u64) -> Option<Limit>
     ensures { result ≡ limit_of us }
 {
     if us < Limit::MIN_US || us > Limit::MAX_US {

@@ -39,13 +39,13 @@ bool keys_new(struct server *s)
 	return service_took(inputflinger_live_add_keys(&s->live, 0, NULL, 0, &s->keys, NULL), "add_keys");
 }
 
-/* Clients repeat keys by themselves. A key that is held while the focus moves is nobody's, so `enter` lists none. */
+/* A key that is held while the focus moves is nobody's: it goes up for nobody, so `enter` lists none. */
 void keys_send(struct window *w, const struct inputflinger_message *m)
 {
 	struct wlr_seat *seat = w->server->seat;
 	bool has_focus = seat->keyboard_state.focused_surface == w->surface;
 
-	if (m->kind == INPUTFLINGER_KEY && m->repeat == 0 && has_focus)
+	if (m->kind == INPUTFLINGER_KEY && has_focus)
 		wlr_seat_keyboard_send_key(seat, (uint32_t)(m->moment_us / 1000), m->scan, m->down);
 	else if (m->kind == INPUTFLINGER_FOCUS && m->focus)
 		wlr_seat_keyboard_enter(seat, w->surface, NULL, 0, &w->server->keyboards->keyboard.modifiers);

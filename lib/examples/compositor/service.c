@@ -116,8 +116,11 @@ int service_wait_ms(struct server *s)
 	return due <= now ? 0 : (int)((due - now + 999) / 1000);
 }
 
+/* Clients of Wayland repeat keys by themselves. */
 bool service_new(struct server *s)
 {
-	return service_took(inputflinger_live_new(&s->live, s->limit_us, NULL), "new") &&
+	static const struct inputflinger_repeats none;
+
+	return service_took(inputflinger_live_new(&s->live, s->limit_us, &none, NULL), "new") &&
 	       (s->spy = window_new(s, NULL)) != NULL;
 }

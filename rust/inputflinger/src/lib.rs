@@ -32,7 +32,7 @@ mod sys;
 pub use judge::{Fault, HeldKey, Judge, NoMemory, Reason, State, StepError};
 pub use live::{
     window_flags, Body, Client, Handed, Live, LiveError, Occlusion, Options, Panel, Received, Rect,
-    Window,
+    Repeats, Window,
 };
 pub use message::{
     Action, Key, Message, Motion, Pointer, FLAG_CANCELED, FLAG_OBSCURED, FLAG_PARTLY_OBSCURED,

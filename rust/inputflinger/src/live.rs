@@ -347,13 +347,38 @@ fn found<T>(status: i32, told: T) -> Result<Option<T>, LiveError> {
     done(status).map(|()| Some(told))
 }
 
+/// When a key that a client's window holds is repeated, in microseconds. Each delay is 1,000 to 600,000,000; or both are
+/// 0, and no key is repeated.
+#[derive(Clone, Copy, Debug, PartialEq, Eq)]
+pub struct Repeats {
+    /// How long after its down it is repeated for the first time.
+    pub first_us: u64,
+    /// How long after each repeat it is repeated again.
+    pub next_us: u64,
+}
+
+impl Repeats {
+    /// The defaults of Android: half a second, and then a twentieth of a second.
+    pub const ANDROID: Repeats = Repeats {
+        first_us: 500_000,
+        next_us: 50_000,
+    };
+
+    /// No key is repeated, as for clients that repeat keys by themselves.
+    pub const NONE: Repeats = Repeats {
+        first_us: 0,
+        next_us: 0,
+    };
+}
+
 /// The dispatcher for a program that runs as long as its screen: clients and devices come and go, events are handed in,
 /// and each client receives its messages. It stays on its thread. Times are microseconds, at most 10^18.
 ///
 /// ```
-/// use inputflinger::{Action, Body, Live, Message, Motion, Occlusion, Panel, Pointer, Rect, Window};
+/// use inputflinger::{Action, Body, Live, Message, Motion, Occlusion, Panel, Pointer, Rect};
+/// use inputflinger::{Repeats, Window};
 ///
-/// let mut live = Live::new(5_000_000, [0; 8])?;
+/// let mut live = Live::new(5_000_000, Repeats::ANDROID, [0; 8])?;
 /// let panel = Panel { x: (0, 1079), y: (0, 2399), width: 1080, height: 2400, rotation: 0 };
 /// let device = live.add_touch(0, 10, &panel)?;
 /// let client = live.open()?;
@@ -376,7 +401,7 @@ fn found<T>(status: i32, told: T) -> Result<Option<T>, LiveError> {
 /// ```
 ///
 /// ```compile_fail
-/// let live = inputflinger::Live::new(5_000_000, [0; 8]).unwrap();
+/// let live = inputflinger::Live::new(5_000_000, inputflinger::Repeats::ANDROID, [0; 8]).unwrap();
 /// std::thread::spawn(move || drop(live));
 /// ```
 pub struct Live {
@@ -385,13 +410,13 @@ pub struct Live {
 
 impl Live {
     /// A service without clients and devices. A client that leaves a message unfinished for `limit_us`, 1,000 to
-    /// 600,000,000, is reported unresponsive. `displays` has the display of each device number, 0 to 3, from device 1
-    /// on.
+    /// 600,000,000, is reported unresponsive. `repeats` says when keys that the window of a client holds are repeated.
+    /// `displays` has the display of each device number, 0 to 3, from device 1 on.
     ///
     /// # Errors
     ///
     /// `OutOfRange` and `NoMemory`.
-    pub fn new(limit_us: u64, displays: [u8; 8]) -> Result<Live, LiveError> {
+    pub fn new(limit_us: u64, repeats: Repeats, displays: [u8; 8]) -> Result<Live, LiveError> {
         let mut live = Live {
             handle: sys::Live {
                 at: ptr::null_mut(),
@@ -401,8 +426,15 @@ impl Live {
         let displays = sys::Displays {
             of_device: displays,
         };
-        // SAFETY: the handle is free, and both are nobody else's.
-        done(unsafe { sys::inputflinger_live_new(&mut live.handle, limit_us, &displays) })?;
+        let repeats = sys::Repeats {
+            first_us: repeats.first_us,
+            next_us: repeats.next_us,
+        };
+        // SAFETY: the handle is free, and all are nobody else's.
+        done(unsafe {
+            let (live, size) = (&mut live.handle, size_of::<sys::Repeats>());
+            sys::inputflinger_live_new_sized(live, limit_us, &repeats, size, &displays)
+        })?;
         Ok(live)
     }
 
@@ -438,9 +470,9 @@ impl Live {
     /// without a line has the key code 0. Returns its number.
     ///
     /// ```
-    /// use inputflinger::{Live, LiveError};
+    /// use inputflinger::{Live, LiveError, Repeats};
     ///
-    /// let mut live = Live::new(5_000_000, [0; 8])?;
+    /// let mut live = Live::new(5_000_000, Repeats::ANDROID, [0; 8])?;
     /// let keyboard = live.add_keys(0, "key 30 A\nkey 48 B\n")?;
     /// assert_eq!(live.add_keys(0, "key 30 a\n"), Err(LiveError::BadLayout { line: 1 }));
     /// live.event(1000, keyboard, 1, 30, 1)?;
@@ -501,9 +533,9 @@ impl Live {
     /// [`event`](Live::event) and no [`args`](Live::args) besides.
     ///
     /// ```
-    /// use inputflinger::{Live, LiveError, Panel};
+    /// use inputflinger::{Live, LiveError, Panel, Repeats};
     ///
-    /// let mut live = Live::new(5_000_000, [0; 8])?;
+    /// let mut live = Live::new(5_000_000, Repeats::ANDROID, [0; 8])?;
     /// let panel = Panel { x: (0, 1079), y: (0, 2399), width: 1080, height: 2400, rotation: 0 };
     /// let device = live.add_touch(0, 16, &panel)?;
     /// live.touch_down(1000, device, 7, 540, 1200)?;
@@ -630,9 +662,9 @@ impl Live {
     /// Opens a client with options on the first free channel.
     ///
     /// ```
-    /// use inputflinger::{Live, Options};
+    /// use inputflinger::{Live, Options, Repeats};
     ///
-    /// let mut live = Live::new(5_000_000, [0; 8])?;
+    /// let mut live = Live::new(5_000_000, Repeats::ANDROID, [0; 8])?;
     /// let client = live.open_with(Options { user_data: 7, finishes: true })?;
     /// assert_eq!(live.user_data(client), Some(7));
     /// # Ok::<(), inputflinger::LiveError>(())
@@ -959,6 +991,35 @@ impl Live {
             sys::inputflinger_live_holds(&self.handle, &client.plain, device, &mut ids)
         })?;
         Ok(ids)
+    }
+
+    /// The first key that is down on a device: the least scan code of those that are down and at least `from`. A window
+    /// that gets the focus while a key is down is sent nothing for that key; a client that shall know of it, such as
+    /// one of Wayland by `wl_keyboard.enter`, is told by you.
+    ///
+    /// ```
+    /// use inputflinger::{Live, LiveError, Repeats};
+    ///
+    /// let mut live = Live::new(5_000_000, Repeats::NONE, [0; 8])?;
+    /// let keyboard = live.add_keys(0, "key 30 A\nkey 42 SHIFT_LEFT\n")?;
+    /// live.event(1000, keyboard, 1, 42, 1)?;
+    /// live.event(2000, keyboard, 1, 30, 1)?;
+    /// assert_eq!(live.first_key(keyboard, 0)?, Some(30));
+    /// assert_eq!(live.first_key(keyboard, 31)?, Some(42));
+    /// assert_eq!(live.first_key(keyboard, 43)?, None);
+    /// # Ok::<(), LiveError>(())
+    /// ```
+    ///
+    /// # Errors
+    ///
+    /// `OutOfRange` if there is no such device number.
+    pub fn first_key(&self, device: u8, from: u32) -> Result<Option<u16>, LiveError> {
+        let mut scan = 0;
+        // SAFETY: as above.
+        let status = unsafe {
+            sys::inputflinger_live_first_key(&self.handle, device, from, &mut scan)
+        };
+        found(status, scan)
     }
 }
 

@@ -142,6 +142,14 @@ pub struct Displays {
     pub of_device: [u8; 8],
 }
 
+/// `struct inputflinger_repeats`
+#[repr(C)]
+#[derive(Clone, Copy)]
+pub struct Repeats {
+    pub first_us: u64,
+    pub next_us: u64,
+}
+
 /// `struct inputflinger_file`
 #[repr(C)]
 pub struct File {
@@ -214,7 +222,13 @@ extern "C" {
         count: *mut usize,
     ) -> i32;
     pub fn inputflinger_judge_free(judge: *mut Judge) -> i32;
-    pub fn inputflinger_live_new(live: *mut Live, limit_us: u64, displays: *const Displays) -> i32;
+    pub fn inputflinger_live_new_sized(
+        live: *mut Live,
+        limit_us: u64,
+        repeats: *const Repeats,
+        repeats_size: usize,
+        displays: *const Displays,
+    ) -> i32;
     pub fn inputflinger_live_free(live: *mut Live) -> i32;
     pub fn inputflinger_live_add_touch_sized(
         live: *mut Live,
@@ -373,6 +387,12 @@ extern "C" {
         device: u8,
         ids: *mut u32,
     ) -> i32;
+    pub fn inputflinger_live_first_key(
+        live: *const Live,
+        device: u8,
+        from: u32,
+        scan: *mut u16,
+    ) -> i32;
     #[cfg(test)]
     pub fn inputflinger_proved_size(number: u32) -> usize;
 }
@@ -400,6 +420,7 @@ mod tests {
             size_of::<Displays>(),
             size_of::<Ran>(),
             size_of::<Options>(),
+            size_of::<Repeats>(),
         ];
         for (number, size) in sizes.iter().enumerate() {
             // SAFETY: the call takes a number and answers one.

@@ -2,7 +2,7 @@
 
 use inputflinger::{
     window_flags, Action, Body, Key, Live, LiveError, Message, Motion, Occlusion, Options, Panel,
-    Pointer, Rect, Window, FLAG_OBSCURED,
+    Pointer, Rect, Repeats, Window, FLAG_OBSCURED,
 };
 
 const PANEL: Panel = Panel {
@@ -44,7 +44,7 @@ fn over(client: inputflinger::Client, occlusion: Occlusion) -> Window<'static> {
 
 #[test]
 fn a_window_of_another_owner_blocks_or_marks_a_touch() -> Result<(), LiveError> {
-    let mut live = Live::new(5_000_000, [0; 8])?;
+    let mut live = Live::new(5_000_000, Repeats::ANDROID, [0; 8])?;
     let device = live.add_touch(0, 10, &PANEL)?;
     let (upper, lower) = (live.open()?, live.open()?);
     let finger = [Pointer { id: 0, x: 540, y: 1200 }];
@@ -72,7 +72,7 @@ fn a_window_of_another_owner_blocks_or_marks_a_touch() -> Result<(), LiveError> 
 
 #[test]
 fn a_wall_takes_touches_that_nobody_is_given() -> Result<(), LiveError> {
-    let mut live = Live::new(5_000_000, [0; 8])?;
+    let mut live = Live::new(5_000_000, Repeats::ANDROID, [0; 8])?;
     let device = live.add_touch(0, 10, &PANEL)?;
     let client = live.open()?;
     let wall = window(inputflinger::Client::NOBODY, 0);
@@ -91,7 +91,7 @@ fn a_wall_takes_touches_that_nobody_is_given() -> Result<(), LiveError> {
 
 #[test]
 fn clients_come_and_go() -> Result<(), LiveError> {
-    let mut live = Live::new(5_000_000, [0; 8])?;
+    let mut live = Live::new(5_000_000, Repeats::ANDROID, [0; 8])?;
     let first = live.open()?;
     assert_eq!((first.channel(), first.generation()), (1, 1));
     live.close(0, first)?;
@@ -116,7 +116,7 @@ fn clients_come_and_go() -> Result<(), LiveError> {
 
 #[test]
 fn a_window_moves_where_it_is() -> Result<(), LiveError> {
-    let mut live = Live::new(5_000_000, [0; 8])?;
+    let mut live = Live::new(5_000_000, Repeats::ANDROID, [0; 8])?;
     let device = live.add_touch(0, 10, &PANEL)?;
     let (front, back) = (live.open()?, live.open()?);
     live.windows(0, &[window(front, 0), window(back, 0)])?;
@@ -154,7 +154,7 @@ fn a_window_moves_where_it_is() -> Result<(), LiveError> {
 
 #[test]
 fn a_client_that_does_not_receive_is_choked_until_it_has_finished_everything() -> Result<(), LiveError> {
-    let mut live = Live::new(5_000_000, [0; 8])?;
+    let mut live = Live::new(5_000_000, Repeats::ANDROID, [0; 8])?;
     let device = live.add_touch(0, 10, &PANEL)?;
     let (client, behind) = (live.open()?, live.open()?);
     live.windows(0, &[window(client, 0), window(behind, 0)])?;
@@ -189,7 +189,7 @@ fn a_client_that_does_not_receive_is_choked_until_it_has_finished_everything() -
 
 #[test]
 fn a_finger_that_a_spy_pilfers() -> Result<(), LiveError> {
-    let mut live = Live::new(5_000_000, [0; 8])?;
+    let mut live = Live::new(5_000_000, Repeats::ANDROID, [0; 8])?;
     let device = live.add_touch(0, 10, &PANEL)?;
     let (spy, behind) = (live.open()?, live.open()?);
     live.windows(0, &[window(spy, window_flags::SPY), window(behind, 0)])?;
@@ -248,7 +248,7 @@ fn motions(
 
 #[test]
 fn fingers_come_one_by_one() -> Result<(), LiveError> {
-    let mut live = Live::new(5_000_000, [0; 8])?;
+    let mut live = Live::new(5_000_000, Repeats::ANDROID, [0; 8])?;
     let device = live.add_touch(0, 16, &PANEL)?;
     let client = live.open()?;
     live.windows(0, &[window(client, 0)])?;
@@ -278,7 +278,7 @@ fn fingers_come_one_by_one() -> Result<(), LiveError> {
 
 #[test]
 fn a_seventeenth_finger_is_refused() -> Result<(), LiveError> {
-    let mut live = Live::new(5_000_000, [0; 8])?;
+    let mut live = Live::new(5_000_000, Repeats::ANDROID, [0; 8])?;
     let device = live.add_touch(0, 16, &PANEL)?;
     for id in 0..16 {
         live.touch_down(1000, device, 100 * id, 10 * id, 0)?;
@@ -297,7 +297,7 @@ fn a_seventeenth_finger_is_refused() -> Result<(), LiveError> {
 
 #[test]
 fn messages_come_in_the_order_of_the_steps() -> Result<(), LiveError> {
-    let mut live = Live::new(1_000_000, [0; 8])?;
+    let mut live = Live::new(1_000_000, Repeats::ANDROID, [0; 8])?;
     let (left, right) = (live.open()?, live.open()?);
     live.windows(0, &[window(left, 0), window(right, 0)])?;
     assert_eq!(live.next_any()?, None);
@@ -325,7 +325,7 @@ fn messages_come_in_the_order_of_the_steps() -> Result<(), LiveError> {
 
 #[test]
 fn a_key_that_is_late() -> Result<(), LiveError> {
-    let mut live = Live::new(1_000_000, [0; 8])?;
+    let mut live = Live::new(1_000_000, Repeats::ANDROID, [0; 8])?;
     let device = live.add_touch(0, 10, &PANEL)?;
     let client = live.open()?;
     live.windows(0, &[window(client, 0)])?;
@@ -362,9 +362,57 @@ fn a_key_that_is_late() -> Result<(), LiveError> {
     Ok(())
 }
 
+/// When a key that goes down at a second is due to be repeated, if nothing is left to finish.
+fn due_of_a_held_key(repeats: Repeats) -> Result<Option<u64>, LiveError> {
+    let mut live = Live::new(5_000_000, repeats, [0; 8])?;
+    let keyboard = live.add_keys(0, "")?;
+    let options = Options {
+        user_data: 0,
+        finishes: true,
+    };
+    let client = live.open_with(options)?;
+    live.windows(0, &[window(client, 0)])?;
+    live.focus(0, 0, Some(client))?;
+    live.event(1_000_000, keyboard, 1, 30, 1)?;
+    while live.next(client)?.is_some() {}
+    Ok(live.due())
+}
+
+#[test]
+fn a_held_key_is_repeated_as_is_said_at_the_start() -> Result<(), LiveError> {
+    assert_eq!(due_of_a_held_key(Repeats::ANDROID)?, Some(1_500_000));
+    assert_eq!(due_of_a_held_key(Repeats::NONE)?, None);
+    let delays = |first_us, next_us| Repeats { first_us, next_us };
+    assert_eq!(due_of_a_held_key(delays(300_000, 40_000))?, Some(1_300_000));
+    for bad in [delays(999, 50_000), delays(500_000, 0), delays(0, 50_000), delays(1000, 600_000_001)] {
+        assert_eq!(Live::new(5_000_000, bad, [0; 8]).err(), Some(LiveError::OutOfRange));
+    }
+    Ok(())
+}
+
+#[test]
+fn keys_are_down_until_they_go_up_or_their_device_goes() -> Result<(), LiveError> {
+    let mut live = Live::new(5_000_000, Repeats::NONE, [0; 8])?;
+    let keyboard = live.add_keys(0, "")?;
+    assert_eq!(live.first_key(keyboard, 0)?, None);
+    for scan in [42, 30, 65535] {
+        live.event(1000, keyboard, 1, scan, 1)?;
+    }
+    assert_eq!(live.first_key(keyboard, 0)?, Some(30));
+    assert_eq!(live.first_key(keyboard, 31)?, Some(42));
+    assert_eq!(live.first_key(keyboard, 43)?, Some(65535));
+    assert_eq!(live.first_key(keyboard, 65536)?, None);
+    live.event(2000, keyboard, 1, 30, 0)?;
+    assert_eq!(live.first_key(keyboard, 0)?, Some(42));
+    live.remove_device(3000, keyboard)?;
+    assert_eq!(live.first_key(keyboard, 0)?, None);
+    assert_eq!(live.first_key(9, 0), Err(LiveError::OutOfRange));
+    Ok(())
+}
+
 #[test]
 fn a_client_with_options_finishes_by_itself() -> Result<(), LiveError> {
-    let mut live = Live::new(5_000_000, [0; 8])?;
+    let mut live = Live::new(5_000_000, Repeats::ANDROID, [0; 8])?;
     let device = live.add_touch(0, 10, &PANEL)?;
     let options = Options {
         user_data: 11,

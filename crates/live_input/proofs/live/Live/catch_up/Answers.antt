@@ -25,7 +25,7 @@ loop-made-preserved c =
           let there = subst (LiveIs ds (extend ds es a.calls)) (sym c.self.view_is) a.is in
           let next = sym (c.next_due.ensures (extend ds es a.calls) (after_of (extend ds es a.calls) _ there.stands)) ∙ c.in-Some.is in
           absurd (none_follows (next_due c.args.now) ds es a.calls c.in-Some.call a.follows quiet next);
-      clients = record { seats_are = c.note.ensures.clients.seats_are ∙ c.loop-made.invariant.clients.seats_are; opened_is = c.note.ensures.clients.opened_is ∙ c.loop-made.invariant.clients.opened_is; limit_is = c.note.ensures.clients.limit_is ∙ c.loop-made.invariant.clients.limit_is; devices_are = c.note.ensures.clients.devices_are ∙ c.loop-made.invariant.clients.devices_are; pending_is = c.note.ensures.clients.pending_is ∙ c.loop-made.invariant.clients.pending_is; fingers_are = c.note.ensures.clients.fingers_are ∙ c.loop-made.invariant.clients.fingers_are };
+      clients = record { seats_are = c.note.ensures.clients.seats_are ∙ c.loop-made.invariant.clients.seats_are; opened_is = c.note.ensures.clients.opened_is ∙ c.loop-made.invariant.clients.opened_is; terms_are = c.note.ensures.clients.terms_are ∙ c.loop-made.invariant.clients.terms_are; devices_are = c.note.ensures.clients.devices_are ∙ c.loop-made.invariant.clients.devices_are; pending_is = c.note.ensures.clients.pending_is ∙ c.loop-made.invariant.clients.pending_is; fingers_are = c.note.ensures.clients.fingers_are ∙ c.loop-made.invariant.clients.fingers_are };
       clock = c.note.ensures.clock ∙ c.loop-made.invariant.clock;
     }
 

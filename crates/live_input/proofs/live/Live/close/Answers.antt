@@ -43,7 +43,7 @@ returns-in-Ok-clause-after c = λ ds es h is.
     (record {
       seats_are = c.vacate.ensures ∙ ap (λ ss. with_seat k (left_vacant (seat_of ss k).before) ss) same;
       opened_is = ap (λ (s : LiveState). s.opened) c.self-2.view_is ∙ c.empty.ensures.rest.opened_is ∙ ap (λ (s : LiveState). s.opened) rest;
-      limit_is = ap (λ (s : LiveState). s.limit) c.self-2.view_is ∙ c.empty.ensures.rest.limit_is ∙ ap (λ (s : LiveState). s.limit) rest;
+      terms_are = ap (λ (s : LiveState). s.terms) c.self-2.view_is ∙ c.empty.ensures.rest.terms_are ∙ ap (λ (s : LiveState). s.terms) rest;
       devices_are = ap (λ (s : LiveState). s.devices) c.self-2.view_is ∙ c.empty.ensures.rest.devices_are ∙ ap (λ (s : LiveState). s.devices) rest;
       pending_is = ap (λ (s : LiveState). s.pending) c.self-2.view_is ∙ c.empty.ensures.rest.pending_is ∙ ap (λ (s : LiveState). s.pending) rest;
       fingers_are = ap (λ (s : LiveState). s.fingers) c.self-2.view_is ∙ c.empty.ensures.rest.fingers_are ∙ ap (λ (s : LiveState). s.fingers) rest;
@@ -71,7 +71,7 @@ returns-in-Err-clause-after c = λ ds es h is.
       record {
         seats_are = clients.seats_are;
         opened_is = clients.opened_is;
-        limit_is = clients.limit_is;
+        terms_are = clients.terms_are;
         devices_are = clients.devices_are;
         pending_is = clients.pending_is;
         fingers_are = clients.fingers_are;

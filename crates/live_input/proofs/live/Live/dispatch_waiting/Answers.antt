@@ -46,7 +46,7 @@ loop-made-preserved c =
           record {
             seats_are = ap (λ (s : LiveState). s.seats) rest ∙ c.loop-made.invariant.rest.seats_are;
             opened_is = ap (λ (s : LiveState). s.opened) rest ∙ c.loop-made.invariant.rest.opened_is;
-            limit_is = ap (λ (s : LiveState). s.limit) rest ∙ c.loop-made.invariant.rest.limit_is;
+            terms_are = ap (λ (s : LiveState). s.terms) rest ∙ c.loop-made.invariant.rest.terms_are;
             devices_are = ap (λ (s : LiveState). s.devices) rest ∙ c.loop-made.invariant.rest.devices_are;
             pending_is = ap (λ (s : LiveState). s.pending) rest ∙ c.loop-made.invariant.rest.pending_is;
             fingers_are = ap (λ (s : LiveState). s.fingers) rest ∙ c.loop-made.invariant.rest.fingers_are;

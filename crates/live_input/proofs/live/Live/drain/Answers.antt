@@ -25,7 +25,7 @@ loop-preserved c =
           record {
             seats_are = c.make.ensures.rest.seats_are ∙ c.loop.invariant.rest.seats_are;
             opened_is = c.make.ensures.rest.opened_is ∙ c.loop.invariant.rest.opened_is;
-            limit_is = c.make.ensures.rest.limit_is ∙ c.loop.invariant.rest.limit_is;
+            terms_are = c.make.ensures.rest.terms_are ∙ c.loop.invariant.rest.terms_are;
             devices_are = c.make.ensures.rest.devices_are ∙ c.loop.invariant.rest.devices_are;
             pending_is = c.make.ensures.rest.pending_is ∙ c.loop.invariant.rest.pending_is;
             fingers_are = c.make.ensures.rest.fingers_are ∙ c.loop.invariant.rest.fingers_are;

@@ -49,7 +49,7 @@ loop-made-preserved c =
             seats_are = ap (λ (s : LiveState). s.seats) c.self-in-loop-made.view_is ∙ c.notify.ensures.rest.seats_are ∙ c.loop-made.invariant.seats.seats_are;
             opened_is = ap (λ (s : LiveState). s.opened) c.self-in-loop-made.view_is ∙ c.notify.ensures.rest.opened_is ∙ c.loop-made.invariant.seats.opened_is;
             fingers_are = ap (λ (s : LiveState). s.fingers) c.self-in-loop-made.view_is ∙ c.notify.ensures.rest.fingers_are ∙ c.loop-made.invariant.seats.fingers_are;
-            limit_is = ap (λ (s : LiveState). s.limit) c.self-in-loop-made.view_is ∙ c.notify.ensures.rest.limit_is ∙ c.loop-made.invariant.seats.limit_is;
+            terms_are = ap (λ (s : LiveState). s.terms) c.self-in-loop-made.view_is ∙ c.notify.ensures.rest.terms_are ∙ c.loop-made.invariant.seats.terms_are;
           };
       named = ap (λ (s : LiveState). s.named) c.self-in-loop-made.view_is ∙ c.notify.ensures.rest.named_is ∙ c.loop-made.invariant.named;
       clock = ap (λ (s : LiveState). s.clock) c.self-in-loop-made.view_is ∙ c.notify.ensures.rest.clock_is ∙ c.loop-made.invariant.clock;

@@ -21,12 +21,12 @@ returns-in-Ok-clause-after c = λ ds es h next.
     let lt : opened (past_of es) < c.args.channel = omega (arith, c.if-opened-channel.true, count) in
     let to = next.to in
     let few : opened (past_of es) < 64 = omega (arith, lt, to) in
-    let release = release_same ds es (Open c.self.inside.limit) c.self.inside.dispatcher c.apply.new.self refl refl before.release c.in-Ok.ensures.ok.goes.gone_are c.in-Ok.ensures.ok.goes.anrs_are in
+    let release = release_same ds es (Open c.self.inside.terms) c.self.inside.dispatcher c.apply.new.self refl refl before.release c.in-Ok.ensures.ok.goes.gone_are c.in-Ok.ensures.ok.goes.anrs_are in
     let stands = stands_with _ _ _ _ c.in-Ok.ensures.ok es before.stands in
-    let there = (stands_more ds es _ before c.apply.new.self c.in-Ok.ensures.ok.goes.displays_are (Open c.self.inside.limit) c.in-Ok.field-0 stands).1 in
+    let there = (stands_more ds es _ before c.apply.new.self c.in-Ok.ensures.ok.goes.displays_are (Open c.self.inside.terms) c.in-Ok.field-0 stands).1 in
     let steps = c.go.ensures ds es (c.in-Ok.ensures.ok.goes.displays_are ∙ before.displays_are) (after_of _ _ there) before.steps_are in
-    let x = open_goes ds es _ before c.apply.new.self c.in-Ok.ensures.ok.goes.displays_are c.self.inside.limit c.in-Ok.field-0 few stands release c.go.new.self steps in
-    opening_live ds c.self.inside.limit c.args.self.now.limit c.args.channel es _ (ap (λ (s : LiveState). s.limit) c.self.view_is) lt x.1
+    let x = open_goes ds es _ before c.apply.new.self c.in-Ok.ensures.ok.goes.displays_are c.self.inside.terms c.in-Ok.field-0 few stands release c.go.new.self steps in
+    opening_live ds c.self.inside.terms c.args.self.now.terms c.args.channel es _ (ap (λ (s : LiveState). s.terms) c.self.view_is) lt x.1
 
 pub returns-in-Ok-clause-sent : goal.returns-in-Ok-clause-sent
 returns-in-Ok-clause-sent c = λ ds es h next.
@@ -35,18 +35,18 @@ returns-in-Ok-clause-sent c = λ ds es h next.
     let lt : opened (past_of es) < c.args.channel = omega (arith, c.if-opened-channel.true, count) in
     let to = next.to in
     let few : opened (past_of es) < 64 = omega (arith, lt, to) in
-    let release = release_same ds es (Open c.self.inside.limit) c.self.inside.dispatcher c.apply.new.self refl refl before.release c.in-Ok.ensures.ok.goes.gone_are c.in-Ok.ensures.ok.goes.anrs_are in
+    let release = release_same ds es (Open c.self.inside.terms) c.self.inside.dispatcher c.apply.new.self refl refl before.release c.in-Ok.ensures.ok.goes.gone_are c.in-Ok.ensures.ok.goes.anrs_are in
     let stands = stands_with _ _ _ _ c.in-Ok.ensures.ok es before.stands in
-    let there = (stands_more ds es _ before c.apply.new.self c.in-Ok.ensures.ok.goes.displays_are (Open c.self.inside.limit) c.in-Ok.field-0 stands).1 in
+    let there = (stands_more ds es _ before c.apply.new.self c.in-Ok.ensures.ok.goes.displays_are (Open c.self.inside.terms) c.in-Ok.field-0 stands).1 in
     let steps = c.go.ensures ds es (c.in-Ok.ensures.ok.goes.displays_are ∙ before.displays_are) (after_of _ _ there) before.steps_are in
-    let x = open_goes ds es _ before c.apply.new.self c.in-Ok.ensures.ok.goes.displays_are c.self.inside.limit c.in-Ok.field-0 few stands release c.go.new.self steps in
+    let x = open_goes ds es _ before c.apply.new.self c.in-Ok.ensures.ok.goes.displays_are c.self.inside.terms c.in-Ok.field-0 few stands release c.go.new.self steps in
     let more = next.next in
     let grown = x.0 in
-    let fs = answered ds (Open c.self.inside.limit) es in
+    let fs = answered ds (Open c.self.inside.terms) es in
     let high : c.args.channel ≤ opened (past_of fs) = omega (arith, more, grown) in
     c.sent.ensures fs (after_of fs c.apply.new.self (x.1).stands) (opened_at fs c.args.channel next.from high)
     ∙ ap (λ gs. length (stream gs c.args.channel))
-    (opening_new ds c.self.inside.limit c.args.channel es lt ∙ ap (λ (s : LiveState). opening ds s.limit c.args.channel es) c.self.view_is)
+    (opening_new ds c.self.inside.terms c.args.channel es lt ∙ ap (λ (s : LiveState). opening ds s.terms c.args.channel es) c.self.view_is)
 
 pub returns-in-Ok-clause-opened : goal.returns-in-Ok-clause-opened
 returns-in-Ok-clause-opened c = λ ds es h next.
@@ -55,16 +55,16 @@ returns-in-Ok-clause-opened c = λ ds es h next.
     let lt : opened (past_of es) < c.args.channel = omega (arith, c.if-opened-channel.true, count) in
     let to = next.to in
     let few : opened (past_of es) < 64 = omega (arith, lt, to) in
-    let release = release_same ds es (Open c.self.inside.limit) c.self.inside.dispatcher c.apply.new.self refl refl before.release c.in-Ok.ensures.ok.goes.gone_are c.in-Ok.ensures.ok.goes.anrs_are in
+    let release = release_same ds es (Open c.self.inside.terms) c.self.inside.dispatcher c.apply.new.self refl refl before.release c.in-Ok.ensures.ok.goes.gone_are c.in-Ok.ensures.ok.goes.anrs_are in
     let stands = stands_with _ _ _ _ c.in-Ok.ensures.ok es before.stands in
-    let there = (stands_more ds es _ before c.apply.new.self c.in-Ok.ensures.ok.goes.displays_are (Open c.self.inside.limit) c.in-Ok.field-0 stands).1 in
+    let there = (stands_more ds es _ before c.apply.new.self c.in-Ok.ensures.ok.goes.displays_are (Open c.self.inside.terms) c.in-Ok.field-0 stands).1 in
     let steps = c.go.ensures ds es (c.in-Ok.ensures.ok.goes.displays_are ∙ before.displays_are) (after_of _ _ there) before.steps_are in
-    let x = open_goes ds es _ before c.apply.new.self c.in-Ok.ensures.ok.goes.displays_are c.self.inside.limit c.in-Ok.field-0 few stands release c.go.new.self steps in
+    let x = open_goes ds es _ before c.apply.new.self c.in-Ok.ensures.ok.goes.displays_are c.self.inside.terms c.in-Ok.field-0 few stands release c.go.new.self steps in
     let more = next.next in
     let grown = x.0 in
-    let high : c.args.channel ≤ opened (past_of (answered ds (Open c.self.inside.limit) es)) = omega (arith, more, grown) in
+    let high : c.args.channel ≤ opened (past_of (answered ds (Open c.self.inside.terms) es)) = omega (arith, more, grown) in
     subst (λ fs. c.args.channel ≤ opened (past_of fs))
-    (opening_new ds c.self.inside.limit c.args.channel es lt ∙ ap (λ (s : LiveState). opening ds s.limit c.args.channel es) c.self.view_is)
+    (opening_new ds c.self.inside.terms c.args.channel es lt ∙ ap (λ (s : LiveState). opening ds s.terms c.args.channel es) c.self.view_is)
     high
 
 pub returns-clause-opened : goal.returns-clause-opened
@@ -72,11 +72,11 @@ returns-clause-opened c = λ ds es h next.
     let before = subst (LiveIs ds es) (sym c.self.view_is) h in
     let count = c.opened.ensures.value es (after_of es c.self.inside.dispatcher before.stands) in
     let le : c.args.channel ≤ opened (past_of es) = omega (arith, c.if-opened-channel.false, count) in
-    subst (λ fs. c.args.channel ≤ opened (past_of fs)) (opening_old ds c.args.self.now.limit c.args.channel es le) le
+    subst (λ fs. c.args.channel ≤ opened (past_of fs)) (opening_old ds c.args.self.now.terms c.args.channel es le) le
 
 pub returns-clause-after : goal.returns-clause-after
 returns-clause-after c = λ ds es h next.
     let before = subst (LiveIs ds es) (sym c.self.view_is) h in
     let count = c.opened.ensures.value es (after_of es c.self.inside.dispatcher before.stands) in
     let le : c.args.channel ≤ opened (past_of es) = omega (arith, c.if-opened-channel.false, count) in
-    subst (λ fs. LiveIs ds fs c.args.self.now) (opening_old ds c.args.self.now.limit c.args.channel es le) h
+    subst (λ fs. LiveIs ds fs c.args.self.now) (opening_old ds c.args.self.now.terms c.args.channel es le) h

@@ -39,7 +39,7 @@ returns-in-Ok-clause-after c = λ ds es h.
     let at : first_vacant c.args.self.now.seats ≡ Some k =
     sym (c.first_vacant.ensures.value ∙ ap (λ (s : LiveState). first_vacant s.seats) c.self.view_is) ∙ c.in-Some.is in
     let next = vacant_next es c.args.self.now.seats k h.seats_are at in
-    let fs = opening ds c.args.self.now.limit k es in
+    let fs = opening ds c.args.self.now.terms k es in
     let there = subst (LiveIs ds fs) (sym c.self-2.view_is) (c.in-Ok.ensures.after ds es h next) in
     let all = there.seats_are.all in
     let none = ap (λ ss. is_held (seat_of ss k)) (ap (λ (s : LiveState). s.seats) c.self-2.view_is ∙ ap (λ (s : LiveState). s.seats) c.open_channel.ensures.rest)

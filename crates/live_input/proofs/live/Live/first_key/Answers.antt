@@ -1,0 +1,10 @@
+-- The dispatcher says it.
+use Rattle.std.proofs.Common.{sym, subst}
+use Rattle.dispatcher.proofs.Laws.Standing.{after_of}
+use Rattle.live_input.specs.Standing.{LiveIs}
+use Rattle.live_input.proofs.live.Live.first_key.Goals as goal
+
+pub returns : goal.returns
+returns c = λ ds es h.
+    let there = subst (LiveIs ds es) (sym c.self.view_is) h in
+    c.first_key.ensures es (after_of es c.self.inside.dispatcher there.stands)
