@@ -65,11 +65,11 @@
  *
  * A later release may add members at the end of a message, a fault, a state, a panel, a window, options and repeats. A
  * program that was compiled before still runs, since each call that takes one of them also takes its size: those calls are
- * inline here, and hand the size that this header gives the struct to the function of the library whose name ends in _sized. A binding
- * of another language calls that function with the size of its own struct. A member that your struct does not have counts
- * as 0, which always means what the release before did. Members that your struct has and the library does not have must be
- * 0, or the answer is INPUTFLINGER_OUT_OF_RANGE; the library writes them as 0. A size below that of the first release is
- * INPUTFLINGER_OUT_OF_RANGE. No other struct ever changes.
+ * inline here, and hand the size that this header gives the struct to the function of the library whose name ends in
+ * _sized. A binding of another language calls that function with the size of its own struct. A member that your struct
+ * does not have counts as 0, which always means what the release before did. Members that your struct has and the library
+ * does not have must be 0, or the answer is INPUTFLINGER_OUT_OF_RANGE; the library writes them as 0. A size below that of
+ * the first release is INPUTFLINGER_OUT_OF_RANGE. No other struct ever changes.
  *
  * Units
  *
@@ -1011,8 +1011,8 @@ int inputflinger_live_is_choked(const struct inputflinger_live *live, const stru
 
 /*
  * Reports the first time at which something is due: a client that leaves a message unfinished for the limit, or, if keys
- * are repeated, the repeat of a held key. It may be later than 10^18. While input waits for memory, it is the clock, and so it is while a
- * client is to be choked or released, or was choked and is not reported yet.
+ * are repeated, the repeat of a held key. It may be later than 10^18. While input waits for memory, it is the clock, and
+ * so it is while a client is to be choked or released, or was choked and is not reported yet.
  *
  *     INPUTFLINGER_OK       moment_us is written
  *     INPUTFLINGER_NOTHING  nothing is due
