@@ -13,7 +13,7 @@ use Rattle.cursor_core.specs.declared.message.HoverMsg.{HoverMsg}
 use Rattle.cursor_core.specs.declared.note.Step.{Step}
 use Rattle.cursor_core.specs.Calls.{Screen, clock, corner_of, cursor, cursor_after, has_moved, hovered, hovered_by, is_motion, live, live_after, moment_of, origin, origin_after, windows, windows_after}
 use Rattle.cursor_core.specs.Cursor.{CursorStandsFor, corner_after, corner_in, stepped}
-use Rattle.cursor_core.specs.Kept.{Kept, Row, gone_in, row_of}
+use Rattle.cursor_core.specs.Kept.{CursorState, Row, gone_in, row_of}
 use Rattle.cursor_core.specs.Notes.{note_after, note_before, noted}
 use Rattle.cursor_core.specs.Rows.{HasRow, row_with, rows_gone, rows_with}
 use Rattle.cursor_core.specs.Told.{change, is_at, message, place, stream, stream_of, told}
@@ -71,7 +71,7 @@ more_kept d call calls rows f c is h =
     (keeps_more (stream_of d calls c) (row_of rows c) (f c) h)))
 
 -- A cursor stands for one more call after a step that does what the call says: `ws` are the windows after it.
-next : (d : Screen) (call : CursorCall) (calls : List CursorCall) (k : Kept) (s : Step) (left met : Pixel) (ws : List Window)
+next : (d : Screen) (call : CursorCall) (calls : List CursorCall) (k : CursorState) (s : Step) (left met : Pixel) (ws : List Window)
     → CursorStandsFor d calls k
     → s.moment ≡ max (moment_of call) k.clock
     → s.moved ≡ is_motion call
@@ -120,7 +120,7 @@ next d call calls k s left met ws h moment moved from to alive before are after 
     }
 
 -- after a motion
-pub moved : (d : Screen) (calls : List CursorCall) (k new : Kept) (now : ℕ) (dx dy : ℤ) (s : Step) (left met : Pixel)
+pub moved : (d : Screen) (calls : List CursorCall) (k new : CursorState) (now : ℕ) (dx dy : ℤ) (s : Step) (left met : Pixel)
     → CursorStandsFor d calls k
     → s.moment ≡ max now k.clock
     → s.moved ≡ true
@@ -140,7 +140,7 @@ moved d calls k new now dx dy s left met h moment moved_is from x y alive before
     let y_is : s.to.y ≡ int_max (pos 0) (int_min (k.at.y +ℤ dy) (pos (d.height - 1))) =
     y ∙ ap (λ (p : Pixel). int_max (pos 0) (int_min (k.at.y +ℤ dy) p.y)) h.last_is in
     let to_is : s.to ≡ cursor_after d (Moved now dx dy) k.at = same_pixel s.to _ _ x_is y_is in
-    subst (λ (kept : Kept). CursorStandsFor d (Moved now dx dy ∷ calls) kept) (sym new_is)
+    subst (λ (kept : CursorState). CursorStandsFor d (Moved now dx dy ∷ calls) kept) (sym new_is)
     (next d (Moved now dx dy) calls k s left met k.windows h moment moved_is from to_is (λ c. ap (λ m. mask_has m c) alive) before refl after
     (λ u e. left_is ∙ ap (corner_in k.windows) e) met_is)
   where
@@ -148,7 +148,7 @@ moved d calls k new now dx dy s left met h moment moved_is from x y alive before
     same_pixel p x y e f = ap₂ {C = Pixel} (λ a b. record { x = a; y = b }) e f
 
 -- after a snapshot
-pub shown : (d : Screen) (calls : List CursorCall) (k new : Kept) (now : ℕ) (snapshot : List Window) (s : Step) (left met : Pixel)
+pub shown : (d : Screen) (calls : List CursorCall) (k new : CursorState) (now : ℕ) (snapshot : List Window) (s : Step) (left met : Pixel)
     → CursorStandsFor d calls k
     → s.moment ≡ max now k.clock
     → s.moved ≡ false
@@ -162,12 +162,12 @@ pub shown : (d : Screen) (calls : List CursorCall) (k new : Kept) (now : ℕ) (s
     → new ≡ record (stepped k s left met) { windows = snapshot }
     → CursorStandsFor d (Windows now snapshot ∷ calls) new
 shown d calls k new now snapshot s left met h moment moved_is from to alive before after left_is met_is new_is =
-    subst (λ (kept : Kept). CursorStandsFor d (Windows now snapshot ∷ calls) kept) (sym new_is)
+    subst (λ (kept : CursorState). CursorStandsFor d (Windows now snapshot ∷ calls) kept) (sym new_is)
     (next d (Windows now snapshot) calls k s left met snapshot h moment moved_is from to (λ c. ap (λ m. mask_has m c) alive) before refl after
     (λ u e. left_is ∙ ap (corner_after snapshot k.windows) e) met_is)
 
 -- after a removal
-pub removed : (d : Screen) (calls : List CursorCall) (k new : Kept) (now channel : ℕ) (s : Step) (left met : Pixel)
+pub removed : (d : Screen) (calls : List CursorCall) (k new : CursorState) (now channel : ℕ) (s : Step) (left met : Pixel)
     → CursorStandsFor d calls k
     → s.moment ≡ max now k.clock
     → s.moved ≡ false
@@ -181,12 +181,12 @@ pub removed : (d : Screen) (calls : List CursorCall) (k new : Kept) (now channel
     → new ≡ stepped k s left met
     → CursorStandsFor d (Remove now channel ∷ calls) new
 removed d calls k new now channel s left met h moment moved_is from to alive before after left_is met_is new_is =
-    subst (λ (kept : Kept). CursorStandsFor d (Remove now channel ∷ calls) kept) (sym new_is)
+    subst (λ (kept : CursorState). CursorStandsFor d (Remove now channel ∷ calls) kept) (sym new_is)
     (next d (Remove now channel) calls k s left met k.windows h moment moved_is from to alive before refl after
     (λ u e. left_is ∙ ap (corner_in k.windows) e) met_is)
 
 -- a cursor whose channel was released
-pub released : (d : Screen) (calls : List CursorCall) (k : Kept) (channel : ℕ) → CursorStandsFor d calls k
+pub released : (d : Screen) (calls : List CursorCall) (k : CursorState) (channel : ℕ) → CursorStandsFor d calls k
     → CursorStandsFor d calls (record k { streams = rows_gone channel k.streams })
 released d calls k channel h = record {
   last_is = h.last_is;
@@ -200,7 +200,7 @@ released d calls k channel h = record {
 }
 
 -- everything that the channel was sent is gone
-pub all_gone : (d : Screen) (calls : List CursorCall) (k : Kept) (channel : ℕ) → CursorStandsFor d calls k → 1 ≤ channel → channel ≤ d.channels
+pub all_gone : (d : Screen) (calls : List CursorCall) (k : CursorState) (channel : ℕ) → CursorStandsFor d calls k → 1 ≤ channel → channel ≤ d.channels
     → gone_in (row_of (rows_gone channel k.streams) channel) ≡ length (stream d calls channel)
 all_gone d calls k channel h low high =
     let one : nat_lt 0 channel ≡ true = lt-ltb 0 channel (omega (arith, low)) in

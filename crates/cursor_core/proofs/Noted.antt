@@ -10,12 +10,12 @@ use Rattle.cursor_core.specs.declared.message.HoverAction.{HoverAction}
 use Rattle.cursor_core.specs.declared.message.HoverAction.TheVariants.{Enter}
 use Rattle.cursor_core.specs.declared.message.HoverMsg.{HoverMsg}
 use Rattle.cursor_core.specs.declared.note.Step.{Step}
-use Rattle.cursor_core.specs.Notes.{note_at, note_of, note_to, note_before, note_after, note_list, noted, place_of}
+use Rattle.cursor_core.specs.Notes.{note_at, note_of, note_to, note_before, note_after, note_list, noted, pixel_of}
 use Rattle.cursor_core.specs.Told.{change, is_at, message}
 
 -- the messages of an optional action
 abbrev said : Step → Pixel → Option HoverAction → List HoverMsg
-said s o action = option_to_list (option_map (λ a. message s.moment a (place_of s a) o) action)
+said s o action = option_to_list (option_map (λ a. message s.moment a (pixel_of s a) o) action)
 
 silent : {X : Type 0} (b : Bool) → ◌≡◌ {A = List X} (cond b [] []) []
 silent true = refl
@@ -27,7 +27,7 @@ own_note s w o p false action e = refl
 own_note s w o p true None e = refl
 own_note s w o p true (Some a) e =
     let here : (w == w) ≡ true = eq-eqb w w refl in
-    rw here (ap (λ q. message s.moment a (place_of s a) q ∷ []) e)
+    rw here (ap (λ q. message s.moment a (pixel_of s a) q ∷ []) e)
 
 other_note : (s : Step) (v w : ℕ) (o : Pixel) (b : Bool) (action : Option HoverAction) → (v == w) ≡ false
     → note_list (cond b (option_map (λ a. note_at s v a o) action) None) w ≡ []
@@ -54,7 +54,7 @@ own_enter : (s : Step) (w : ℕ) (o p : Pixel) (b : Bool) → o ≡ p → note_l
 own_enter s w o p true e = refl
 own_enter s w o p false e =
     let here : (w == w) ≡ true = eq-eqb w w refl in
-    rw here (ap (λ q. message s.moment Enter (place_of s Enter) q ∷ []) e)
+    rw here (ap (λ q. message s.moment Enter (pixel_of s Enter) q ∷ []) e)
 
 other_enter : (s : Step) (v w : ℕ) (o : Pixel) (b : Bool) → (v == w) ≡ false → note_list (cond b None (Some (note_at s v Enter o))) w ≡ []
 other_enter s v w o true e = refl

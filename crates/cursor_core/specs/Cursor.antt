@@ -8,14 +8,14 @@ use Rattle.cursor_core.specs.declared.call.CursorCall.{CursorCall}
 use Rattle.cursor_core.specs.declared.note.Step.{Step}
 use Rattle.cursor_core.specs.Calls.{Screen, clock, corner_of, cursor, has_moved, hovered, live, windows}
 use Rattle.window_snapshot.specs.Origins.{corner, or_origin}
-use Rattle.cursor_core.specs.Kept.{Kept, row_of}
+use Rattle.cursor_core.specs.Kept.{CursorState, row_of}
 use Rattle.cursor_core.specs.Notes.{note_after, note_before, noted}
 use Rattle.cursor_core.specs.Rows.{HasRow, rows_with}
 use Rattle.cursor_core.specs.Told.{stream_of}
 
 -- a cursor stands for these calls: it knows what they say, and keeps what they send to each channel, except what was
 -- released
-pub record CursorStandsFor (d : Screen) (calls : List CursorCall) (k : Kept) : Type 0 where
+pub record CursorStandsFor (d : Screen) (calls : List CursorCall) (k : CursorState) : Type 0 where
   pub last_is : k.last ≡ record { x = pos (d.width - 1); y = pos (d.height - 1) }
   pub at_is : k.at ≡ cursor d calls
   pub clock_is : k.clock ≡ clock calls
@@ -36,7 +36,7 @@ corner_after later earlier None = corner
 corner_after later earlier (Some w) = or_origin (origin_of later w) (corner_of earlier w)
 
 -- a cursor after a step, if the windows hovered before and after it have these corners
-abbrev pub stepped : Kept → Step → Pixel → Pixel → Kept
+abbrev pub stepped : CursorState → Step → Pixel → Pixel → CursorState
 stepped k s left met =
     record {
       last = k.last;

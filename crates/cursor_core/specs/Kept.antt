@@ -11,7 +11,7 @@ pub record Row : Type 0 where
 
 -- the last pixel of the display, the cursor, the clock, whether the mouse has moved, the mask of the live channels, the windows, the
 -- hovered one, and what is kept of each channel
-pub record Kept : Type 0 where
+pub record CursorState : Type 0 where
   pub last : Pixel
   pub at : Pixel
   pub clock : ℕ
@@ -40,5 +40,5 @@ gone_in None = 0
 gone_in (Some r) = r.gone
 
 -- how many of the first messages of a channel were released
-abbrev pub gone : Kept → ℕ → ℕ
+abbrev pub gone : CursorState → ℕ → ℕ
 gone k c = gone_in (row_of k.streams c)

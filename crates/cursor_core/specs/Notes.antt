@@ -11,12 +11,12 @@ use Rattle.cursor_core.specs.declared.note.Step.{Step}
 use Rattle.cursor_core.specs.Told.{change, is_at, message, place}
 
 -- where an action is
-abbrev pub place_of : Step → HoverAction → Pixel
-place_of s action = place action s.from s.to
+abbrev pub pixel_of : Step → HoverAction → Pixel
+pixel_of s action = place action s.from s.to
 
 -- the message of an action to a channel whose window has this origin
 abbrev pub note_at : Step → ℕ → HoverAction → Pixel → Note
-note_at s w action o = record { channel = w; message = message s.moment action (place_of s action) o }
+note_at s w action o = record { channel = w; message = message s.moment action (pixel_of s action) o }
 
 -- what a window that was hovered is sent, if it is live
 abbrev pub note_of : Step → ℕ → Pixel → Option Note

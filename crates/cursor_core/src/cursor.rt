@@ -40,9 +40,9 @@ pub struct Cursor {
 }
 
 impl Model for Cursor {
-    ghost use Rattle.cursor_core.specs.Kept.{Kept};
+    ghost use Rattle.cursor_core.specs.Kept.{CursorState};
 
-    ghost Value = { Kept };
+    ghost Value = { CursorState };
 
     ghost view = { λ c. record {
       last = c.last;

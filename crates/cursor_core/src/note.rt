@@ -2,7 +2,7 @@
 ghost use Rattle.std.specs.Prelude.{◌≡◌, List, OnOk, OnErr};
 ghost use Rattle.cursor_core.specs.Kept.{Row};
 ghost use Rattle.cursor_core.specs.Told.{is_at};
-ghost use Rattle.cursor_core.specs.Notes.{note_at, note_before, note_after, noted, note_list, place_of};
+ghost use Rattle.cursor_core.specs.Notes.{note_at, note_before, note_after, noted, note_list, pixel_of};
 ghost use Rattle.cursor_core.specs.Rows.{rows_with};
 
 use crate::message::{HoverAction, HoverMsg, change, message};
@@ -48,8 +48,8 @@ fn is_at(hovered: Option<u32>, channel: u32) -> bool
 }
 
 /// An Exit is at the cursor before the call, and any other action at the cursor after it.
-fn place_of(step: &Step, action: HoverAction) -> Pixel
-    ensures { result ≡ place_of step.now action }
+fn pixel_of(step: &Step, action: HoverAction) -> Pixel
+    ensures { result ≡ pixel_of step.now action }
 {
     match action {
         HoverAction::Exit => step.from,
@@ -63,7 +63,7 @@ fn note_at(step: &Step, channel: u32, action: HoverAction, origin: Pixel) -> Not
 {
     Note {
         channel,
-        message: message(step.moment, action, place_of(step, action), origin),
+        message: message(step.moment, action, pixel_of(step, action), origin),
     }
 }
 

@@ -17,7 +17,7 @@ use Rattle.device_reader.specs.PointerIds.PointerIds.{assigned}
 use Rattle.raw_events.specs.Packets.{is_report, is_drop, is_void}
 use Rattle.device_reader.specs.TouchMapper.Gesture.{gesture, as_args}
 use Rattle.key_layout.specs.Layout.{code_at}
-use Rattle.key_mapper.specs.Key.{KeyEvent, is_press, is_release, is_down, changes, key_of, meta_of}
+use Rattle.key_mapper.specs.Key.{KeyEvent, is_press, is_release, is_down, changes, key_args_of, meta_of}
 use Rattle.device_reader.specs.Packets.{since_drop, is_key, key_event, key_events}
 use Rattle.device_reader.specs.Cooked.{TouchPlan, KeysPlan, DevicePlan, Touches, Keys, number_of, pointers_at, cancelled_at, key_list, kind_args, args_of, device_args}
 use Rattle.device_reader.specs.CookedList.{of_device, plan_of, added_by, added, latest, cooked}
@@ -79,7 +79,7 @@ key_state plan ks k false tail is before =
 
 keys_state : (plan : KeysPlan) (past : List RawEvent) (e : RawEvent) (t : Bool) (tail : List Args) → is_key e ≡ t
     → device_state plan.device tail ≡ Some (only_keys (key_events past))
-    → device_state plan.device (reverse (if t then key_list (key_of plan.device plan.layout (key_events past) (key_event e)) else []) ++ tail)
+    → device_state plan.device (reverse (if t then key_list (key_args_of plan.device plan.layout (key_events past) (key_event e)) else []) ++ tail)
     ≡ Some (only_keys (if t then key_event e ∷ key_events past else key_events past))
 keys_state plan past e true tail is before =
     key_state plan (key_events past) (key_event e) (changes (key_events past) (key_event e)) tail refl before
@@ -136,7 +136,7 @@ from_key plan ks k true = (refl, tt)
 from_key plan ks k false = tt
 
 from_keys : (plan : KeysPlan) (past : List RawEvent) (e : RawEvent) (t : Bool)
-    → AllFrom plan.device (if t then key_list (key_of plan.device plan.layout (key_events past) (key_event e)) else [])
+    → AllFrom plan.device (if t then key_list (key_args_of plan.device plan.layout (key_events past) (key_event e)) else [])
 from_keys plan past e true = from_key plan (key_events past) (key_event e) (changes (key_events past) (key_event e))
 from_keys plan past e false = tt
 

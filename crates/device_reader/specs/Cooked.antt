@@ -14,7 +14,7 @@ use Rattle.device_reader.specs.PointerIds.PointerIds.{named_after, is_cancelled,
 use Rattle.device_reader.specs.TouchMapper.Cooking.{Cooking}
 use Rattle.device_reader.specs.TouchMapper.Gesture.{placed_all, gesture, as_args}
 use Rattle.key_layout.specs.Layout.{Codes}
-use Rattle.key_mapper.specs.Key.{key_of}
+use Rattle.key_mapper.specs.Key.{key_args_of}
 use Rattle.key_mapper.specs.Held.{Held, KeysStandFor}
 use Rattle.device_reader.specs.declared.touch.Touch.{Touch}
 use Rattle.device_reader.specs.declared.reader.Kind.{Kind}
@@ -65,7 +65,7 @@ key_list (Some k) = Key k ∷ []
 -- what an event of a keys device adds after events without a drop: the key that it moves, at once and not when its
 -- packet ends
 abbrev pub key_args : KeysPlan → List RawEvent → RawEvent → List Args
-key_args plan past e = if is_key e then key_list (key_of plan.device plan.layout (key_events past) (key_event e)) else []
+key_args plan past e = if is_key e then key_list (key_args_of plan.device plan.layout (key_events past) (key_event e)) else []
 
 -- what an event of a device adds after events without a drop
 abbrev pub kind_args : DevicePlan → List RawEvent → RawEvent → List Args

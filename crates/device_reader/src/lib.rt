@@ -34,6 +34,7 @@ pub mod slot_accumulator;
 mod touch;
 pub mod touch_mapper;
 
+pub use packets::is_drop;
 pub use reader::DeviceReader;
 pub use readers::Readers;
 pub use recording::cook;

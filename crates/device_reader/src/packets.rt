@@ -6,7 +6,8 @@ use raw_events::RawEvent;
 use raw_events::codes::{EV_SYN, SYN_DROPPED};
 
 /// Whether an event says that events were lost.
-pub(crate) fn is_drop(event: &RawEvent) -> bool
+#[inline(always)]
+pub fn is_drop(event: &RawEvent) -> bool
     ensures { result ≡ drops event.now }
 {
     if event.kind != EV_SYN {

@@ -20,7 +20,7 @@ use Rattle.dispatch_history.specs.History.{History, live, live_after, snapshot}
 use Rattle.dispatch_history.specs.Queue.{inbound, args_of}
 use Rattle.dispatch_history.specs.Effect.{Effect, past_of}
 use Rattle.dispatch_history.specs.Effects.{effects, effect_of}
-use Rattle.dispatch_history.specs.Delivery.{able, unresponsive, names, is_named_by}
+use Rattle.dispatch_history.specs.Delivery.{able, unresponsive, reports, is_reported_by}
 use Rattle.dispatch_history.specs.Step.{marks, scene, step_of}
 use Rattle.dispatch_history.specs.Laws.{HolderLaw}
 use Rattle.dispatch_history.proofs.AbleLaws.{able_step}
@@ -70,11 +70,11 @@ abbrev Stands : List ℕ → List Effect → ℕ → ℕ → Type 0
 Stands ds es w d = (able es w ≡ true) × (is_shown_on (snapshot (past_of es)) (device_display ds d) w ≡ true)
 
 -- it stays so while it stays live, is not reported unresponsive, and is shown
-remains : (ds : List ℕ) (x : Effect) (es : List Effect) (w d : ℕ) → able es w ≡ true → live x.past w ≡ true → names x.past w ≡ false
+remains : (ds : List ℕ) (x : Effect) (es : List Effect) (w d : ℕ) → able es w ≡ true → live x.past w ≡ true → reports x.past w ≡ false
     → is_shown_on (snapshot x.past) (device_display ds d) w ≡ true → Stands ds (x ∷ es) w d
 remains ds x es w d a l n s =
     let p = and_parts (live (past_of es) w) (not (unresponsive es w)) a in
-    ((able_step x es w).0 (not-true (unresponsive es w) p.1) ∙ and_from (live x.past w) (not (names x.past w)) l (ap not n), s)
+    ((able_step x es w).0 (not-true (unresponsive es w) p.1) ∙ and_from (live x.past w) (not (reports x.past w)) l (ap not n), s)
 
 was_live : (es : List Effect) (w : ℕ) → able es w ≡ true → live (past_of es) w ≡ true
 was_live es w a = (and_parts (live (past_of es) w) (not (unresponsive es w)) a).0
@@ -92,7 +92,7 @@ remove_gives : (ws : List Window) (s : Scene) (now k w d i : ℕ) (answer : Repl
 remove_gives ws s now k w d i Done = refl
 remove_gives ws s now k w d i _ = refl
 
-tick_names : (ws : List Window) (s : Scene) (now w d i : ℕ) (answer : Reply) → takes (taken s (step_of ws (Tick now) answer None)) w d i ≡ false → is_named_by (Tick now) answer w ≡ false
+tick_names : (ws : List Window) (s : Scene) (now w d i : ℕ) (answer : Reply) → takes (taken s (step_of ws (Tick now) answer None)) w d i ≡ false → is_reported_by (Tick now) answer w ≡ false
 tick_names ws s now w d i (Named mask) n = n
 tick_names ws s now w d i _ n = refl
 

@@ -16,7 +16,7 @@ use Rattle.dispatch_history.specs.Queue.{inbound, args_of}
 use Rattle.dispatch_history.specs.Effect.{Effect, past_of, stream, dispatched}
 use Rattle.dispatch_history.specs.Effects.{effects}
 use Rattle.dispatch_history.specs.Focus.{is_target}
-use Rattle.dispatch_history.specs.Delivery.{able, names, unresponsive}
+use Rattle.dispatch_history.specs.Delivery.{able, reports, unresponsive}
 use Rattle.dispatch_history.specs.Keys.{same_key, goes_down, ends, loses_all, key_given, keys}
 use Rattle.dispatch_history.specs.KeySent.{key_cancelled, keys_sent, last_key, while_held, repeat_due, repeat_sent, repeat_by}
 use Rattle.dispatch_history.specs.Reply.{pump_reply, is_due}
@@ -38,33 +38,33 @@ RepeatsHeld d s w last old x =
     → (k : KeyArgs) × (held_key old d s ≡ Some k) × (k.down ≡ true) × (x.1 ≡ Some m.key)
 
 abbrev Sends : ℕ → ℕ → Option Args → Bool → Bool → List KeyArgs → List KeyMsg → Known → Type 0
-Sends d s o hears loses old r x =
-    KeyKnown (held_key (key_given (goes_down o) hears (cond loses [] (filter (λ k. not (ends o k)) old))) d s) (all d s (keys_sent o hears loses old ++ r) x)
+Sends d s o gets loses old r x =
+    KeyKnown (held_key (key_given (goes_down o) gets (cond loses [] (filter (λ k. not (ends o k)) old))) d s) (all d s (keys_sent o gets loses old ++ r) x)
 
 abbrev NewKey : Option Args → List KeyArgs → Type 0
 NewKey o old = (k : KeyArgs) → goes_down o ≡ Some k → (k.down ≡ true) × (held_key old k.device k.scan ≡ None)
 
 -- nothing else is sent
-sends_alone : (d s : ℕ) (o : Option Args) (hears loses : Bool) (down : ℕ → ℕ → Bool) (old : List KeyArgs) (x : Known) → AllHeld down old → NoLoss o loses → NewKey o old
-    → KeyKnown (held_key old d s) x → Sends d s o hears loses old [] x
-sends_alone d s o hears loses down old x a n f h =
-    subst (KeyKnown (held_key (key_given (goes_down o) hears (cond loses [] (filter (λ k. not (ends o k)) old))) d s)) (sym (all-append d s (keys_sent o hears loses old) [] x))
-    (keys_send d s o hears loses down old x a n f h)
+sends_alone : (d s : ℕ) (o : Option Args) (gets loses : Bool) (down : ℕ → ℕ → Bool) (old : List KeyArgs) (x : Known) → AllHeld down old → NoLoss o loses → NewKey o old
+    → KeyKnown (held_key old d s) x → Sends d s o gets loses old [] x
+sends_alone d s o gets loses down old x a n f h =
+    subst (KeyKnown (held_key (key_given (goes_down o) gets (cond loses [] (filter (λ k. not (ends o k)) old))) d s)) (sym (all-append d s (keys_sent o gets loses old) [] x))
+    (keys_send d s o gets loses down old x a n f h)
 
 -- no args are dispatched, and nothing is lost
-sends_idle : (d s : ℕ) (hears : Bool) (old : List KeyArgs) (r : List KeyMsg) (x : Known) → KeyKnown (held_key old d s) (all d s r x) → Sends d s None hears false old r x
-sends_idle d s hears old r x h =
+sends_idle : (d s : ℕ) (gets : Bool) (old : List KeyArgs) (r : List KeyMsg) (x : Known) → KeyKnown (held_key old d s) (all d s r x) → Sends d s None gets false old r x
+sends_idle d s gets old r x h =
     subst₂ (λ left outgoing. KeyKnown (held_key left d s) (all d s (map key_cancelled outgoing ++ r) x)) (sym (filter_all (λ k. true) (λ k. refl) old)) (sym (filter_none (λ k. false) (λ k. refl) old)) h
 
-repeats : (d s now w : ℕ) (hears : Bool) (old : List KeyArgs) (last : Option Sent) (x : Known) → RepeatsHeld d s w last old x → KeyKnown (held_key old d s) x
-    → Sends d s None hears false old (repeat_sent (Pump now) Repeated last w) x
-repeats d s now w hears old None x f h = sends_idle d s hears old [] x h
-repeats d s now w hears old (Some m) x f h = by_channel (w == m.channel) (f m refl)
+repeats : (d s now w : ℕ) (gets : Bool) (old : List KeyArgs) (last : Option Sent) (x : Known) → RepeatsHeld d s w last old x → KeyKnown (held_key old d s) x
+    → Sends d s None gets false old (repeat_sent (Pump now) Repeated last w) x
+repeats d s now w gets old None x f h = sends_idle d s gets old [] x h
+repeats d s now w gets old (Some m) x f h = by_channel (w == m.channel) (f m refl)
   where
     by_channel : (b : Bool) → (b ≡ true → is_key d s m.key.key ≡ true → (k : KeyArgs) × (held_key old d s ≡ Some k) × (k.down ≡ true) × (x.1 ≡ Some m.key))
-        → Sends d s None hears false old (cond b (repeated m.key ∷ []) []) x
-    by_channel true g = sends_idle d s hears old (repeated m.key ∷ []) x (repeat_sends d s m.key (held_key old d s) x (g refl) h)
-    by_channel false g = sends_idle d s hears old [] x h
+        → Sends d s None gets false old (cond b (repeated m.key ∷ []) []) x
+    by_channel true g = sends_idle d s gets old (repeated m.key ∷ []) x (repeat_sends d s m.key (held_key old d s) x (g refl) h)
+    by_channel false g = sends_idle d s gets old [] x h
 
 no_loss : (o : Option Args) → NoLoss o false
 no_loss None = tt
@@ -72,28 +72,28 @@ no_loss (Some (MotionArgs m)) = tt
 no_loss (Some (Reset r)) = tt
 no_loss (Some (KeyOfDevice k)) = refl
 
-pump_sends : (d s now w : ℕ) (answer : Reply) (ws : List Args) (hears loses : Bool) (down : ℕ → ℕ → Bool) (old : List KeyArgs) (last : Option Sent) (x : Known) (due : Option ℕ) (at : ℕ)
+pump_sends : (d s now w : ℕ) (answer : Reply) (ws : List Args) (gets loses : Bool) (down : ℕ → ℕ → Bool) (old : List KeyArgs) (last : Option Sent) (x : Known) (due : Option ℕ) (at : ℕ)
     → answer ≡ pump_reply ws due at → AllHeld down old → loses ≡ false → NewKey (args_of (Pump now) answer ws) old
     → (is_due due at ≡ true → RepeatsHeld d s w last old x) → KeyKnown (held_key old d s) x
-    → Sends d s (args_of (Pump now) answer ws) hears loses old (repeat_sent (Pump now) answer last w) x
-pump_sends d s now w answer (a ∷ ws) hears loses down old last x due at r held n new f h =
-    subst₂ (λ v b. NewKey (args_of (Pump now) v (a ∷ ws)) old → Sends d s (args_of (Pump now) v (a ∷ ws)) hears b old (repeat_sent (Pump now) v last w) x) (sym r) (sym n)
-    (λ g. sends_alone d s (Some a) hears false down old x held (no_loss (Some a)) g h) new
-pump_sends d s now w answer [] hears loses down old last x due at r held n new f h =
-    subst (λ b. Sends d s (args_of (Pump now) answer []) hears b old (repeat_sent (Pump now) answer last w) x) (sym n) (by_due (cases_Bool (is_due due at)))
+    → Sends d s (args_of (Pump now) answer ws) gets loses old (repeat_sent (Pump now) answer last w) x
+pump_sends d s now w answer (a ∷ ws) gets loses down old last x due at r held n new f h =
+    subst₂ (λ v b. NewKey (args_of (Pump now) v (a ∷ ws)) old → Sends d s (args_of (Pump now) v (a ∷ ws)) gets b old (repeat_sent (Pump now) v last w) x) (sym r) (sym n)
+    (λ g. sends_alone d s (Some a) gets false down old x held (no_loss (Some a)) g h) new
+pump_sends d s now w answer [] gets loses down old last x due at r held n new f h =
+    subst (λ b. Sends d s (args_of (Pump now) answer []) gets b old (repeat_sent (Pump now) answer last w) x) (sym n) (by_due (cases_Bool (is_due due at)))
   where
-    by_due : (is_due due at ≡ true) ⊎ (is_due due at ≡ false) → Sends d s (args_of (Pump now) answer []) hears false old (repeat_sent (Pump now) answer last w) x
+    by_due : (is_due due at ≡ true) ⊎ (is_due due at ≡ false) → Sends d s (args_of (Pump now) answer []) gets false old (repeat_sent (Pump now) answer last w) x
     by_due (inl y) =
         let e : answer ≡ Repeated = r ∙ ap (λ b. cond b Repeated Idle) y in
-        subst (λ v. Sends d s (args_of (Pump now) v []) hears false old (repeat_sent (Pump now) v last w) x) (sym e) (repeats d s now w hears old last x (f y) h)
+        subst (λ v. Sends d s (args_of (Pump now) v []) gets false old (repeat_sent (Pump now) v last w) x) (sym e) (repeats d s now w gets old last x (f y) h)
     by_due (inr y) =
         let e : answer ≡ Idle = r ∙ ap (λ b. cond b Repeated Idle) y in
-        subst (λ v. Sends d s (args_of (Pump now) v []) hears false old (repeat_sent (Pump now) v last w) x) (sym e) (sends_idle d s hears old [] x h)
+        subst (λ v. Sends d s (args_of (Pump now) v []) gets false old (repeat_sent (Pump now) v last w) x) (sym e) (sends_idle d s gets old [] x h)
 
 -- a window that is not live holds no key
-none_given : (o : Option KeyArgs) (hears loses : Bool) (held : List KeyArgs) → hears ≡ false → loses ≡ true → key_given o hears (cond loses [] held) ≡ []
-none_given None hears loses held e f = ap (λ b. cond b [] held) f
-none_given (Some k) hears loses held e f = ap₂ (λ a b. key_given (Some k) a (cond b [] held)) e f
+none_given : (o : Option KeyArgs) (gets loses : Bool) (held : List KeyArgs) → gets ≡ false → loses ≡ true → key_given o gets (cond loses [] held) ≡ []
+none_given None gets loses held e f = ap (λ b. cond b [] held) f
+none_given (Some k) gets loses held e f = ap₂ (λ a b. key_given (Some k) a (cond b [] held)) e f
 
 dead_loses : (a b c l : Bool) → l ≡ false → (a && not b || c || not l) ≡ true
 dead_loses a b c l e = ap (λ x. a && not b || c || not x) e ∙ last_true (a && not b) c
@@ -103,12 +103,12 @@ dead_loses a b c l e = ap (λ x. a && not b || c || not x) e ∙ last_true (a &&
     last_true false true = refl
     last_true false false = refl
 
-dead_hears : (t l u : Bool) → l ≡ false → (t && (l && not u)) ≡ false
-dead_hears true l u e = ap (λ x. x && not u) e
-dead_hears false l u e = refl
+dead_gets : (t l u : Bool) → l ≡ false → (t && (l && not u)) ≡ false
+dead_gets true l u e = ap (λ x. x && not u) e
+dead_gets false l u e = refl
 
-none_kept : (hears loses : Bool) (held : List KeyArgs) → loses ≡ true → key_given None hears (cond loses [] held) ≡ []
-none_kept hears loses held e = ap (λ b. cond b [] held) e
+none_kept : (gets loses : Bool) (held : List KeyArgs) → loses ≡ true → key_given None gets (cond loses [] held) ≡ []
+none_kept gets loses held e = ap (λ b. cond b [] held) e
 
 no_keys : (ds : List ℕ) (h : History) (w : ℕ) → live h w ≡ false → keys (effects ds h) w ≡ []
 no_keys ds [] w n = refl
@@ -118,7 +118,7 @@ no_keys ds ((call, answer) ∷ h) w n = by_call call (subst (λ past. live ((cal
     es = effects ds h
 
     gone : (c : Call) → live ((c, answer) ∷ past_of es) w ≡ false → loses_all ((c, answer) ∷ past_of es) (past_of es) w ≡ true
-    gone c q = dead_loses (is_target (past_of es) w) (is_target ((c, answer) ∷ past_of es) w) (names ((c, answer) ∷ past_of es) w) (live ((c, answer) ∷ past_of es) w) q
+    gone c q = dead_loses (is_target (past_of es) w) (is_target ((c, answer) ∷ past_of es) w) (reports ((c, answer) ∷ past_of es) w) (live ((c, answer) ∷ past_of es) w) q
 
     quiet : (c : Call) → live ((c, answer) ∷ past_of es) w ≡ false
         → key_given None (is_target (past_of es) w && able es w) (cond (loses_all ((c, answer) ∷ past_of es) (past_of es) w) [] (filter (λ k. not (ends None k)) (keys es w))) ≡ []
@@ -128,7 +128,7 @@ no_keys ds ((call, answer) ∷ h) w n = by_call call (subst (λ past. live ((cal
     by_call (Pump now) q =
         let o = args_of (Pump now) answer (inbound (past_of es)) in
         none_given (goes_down o) (is_target (past_of es) w && able es w) (loses_all ((Pump now, answer) ∷ past_of es) (past_of es) w) (filter (λ k. not (ends o k)) (keys es w))
-        (dead_hears (is_target (past_of es) w) (live (past_of es) w) (unresponsive es w) q) (gone (Pump now) q)
+        (dead_gets (is_target (past_of es) w) (live (past_of es) w) (unresponsive es w) q) (gone (Pump now) q)
     by_call (Open terms) q = quiet (Open terms) q
     by_call (Windows now shown) q = quiet (Windows now shown) q
     by_call (FocusOn now y c) q = quiet (FocusOn now y c) q

@@ -58,7 +58,7 @@ is_left p (l ∷ ls) d s k e q = by_test (is_key d s l) (p l) refl refl e (λ f.
 
 -- A step on the keys of a window that holds each once, a key that goes down not among them.
 abbrev Next : Option Args → Bool → Bool → List KeyArgs → List KeyArgs
-Next o hears loses old = key_given (goes_down o) hears (cond loses [] (filter (λ k. not (ends o k)) old))
+Next o gets loses old = key_given (goes_down o) gets (cond loses [] (filter (λ k. not (ends o k)) old))
 
 abbrev New : Option Args → List KeyArgs → Type 0
 New o old = (k : KeyArgs) → goes_down o ≡ Some k → held_key old k.device k.scan ≡ None
@@ -85,37 +85,37 @@ keeps_key o loses old k e n =
     ap (λ b. held_key (cond b [] (filter (λ l. not (ends o l)) old)) k.device k.scan) p.1
     ∙ is_left (λ l. not (ends o l)) old k.device k.scan k e (ap not p.0)
 
-step_parts : (down : ℕ → ℕ → Bool) (o : Option Args) (hears loses : Bool) (old : List KeyArgs) (k : KeyArgs) → AllHeld down old → New o old
-    → held_key (Next o hears loses old) k.device k.scan ≡ Some k
-    → ((goes_down o ≡ Some k) × (hears ≡ true)) ⊎ ((held_key old k.device k.scan ≡ Some k) × ((ends o k || loses) ≡ false))
-step_parts down o hears loses old k a new e = by_given (goes_down o) hears refl refl e
+step_parts : (down : ℕ → ℕ → Bool) (o : Option Args) (gets loses : Bool) (old : List KeyArgs) (k : KeyArgs) → AllHeld down old → New o old
+    → held_key (Next o gets loses old) k.device k.scan ≡ Some k
+    → ((goes_down o ≡ Some k) × (gets ≡ true)) ⊎ ((held_key old k.device k.scan ≡ Some k) × ((ends o k || loses) ≡ false))
+step_parts down o gets loses old k a new e = by_given (goes_down o) gets refl refl e
   where
     left : List KeyArgs
     left = cond loses [] (filter (λ l. not (ends o l)) old)
 
-    by_given : (g : Option KeyArgs) (b : Bool) → goes_down o ≡ g → hears ≡ b → held_key (key_given g b left) k.device k.scan ≡ Some k
-        → ((goes_down o ≡ Some k) × (hears ≡ true)) ⊎ ((held_key old k.device k.scan ≡ Some k) × ((ends o k || loses) ≡ false))
+    by_given : (g : Option KeyArgs) (b : Bool) → goes_down o ≡ g → gets ≡ b → held_key (key_given g b left) k.device k.scan ≡ Some k
+        → ((goes_down o ≡ Some k) × (gets ≡ true)) ⊎ ((held_key old k.device k.scan ≡ Some k) × ((ends o k || loses) ≡ false))
     by_given None b g h e = inr (kept_key down o loses old k a e)
     by_given (Some j) false g h e = inr (kept_key down o loses old k a e)
     by_given (Some j) true g h e =
         by_key (is_key k.device k.scan j) (sym (held_with j left k.device k.scan (left_none loses (λ l. not (ends o l)) old j.device j.scan (new j g))) ∙ e)
       where
         by_key : (c : Bool) → cond c (Some j) (held_key left k.device k.scan) ≡ Some k
-            → ((goes_down o ≡ Some k) × (hears ≡ true)) ⊎ ((held_key old k.device k.scan ≡ Some k) × ((ends o k || loses) ≡ false))
+            → ((goes_down o ≡ Some k) × (gets ≡ true)) ⊎ ((held_key old k.device k.scan ≡ Some k) × ((ends o k || loses) ≡ false))
         by_key true q = inl (g ∙ q, h)
         by_key false q = inr (kept_key down o loses old k a q)
 
-gives_key : (o : Option Args) (hears loses : Bool) (old : List KeyArgs) (k : KeyArgs) → New o old → goes_down o ≡ Some k → hears ≡ true
-    → held_key (Next o hears loses old) k.device k.scan ≡ Some k
-gives_key o hears loses old k new g h =
+gives_key : (o : Option Args) (gets loses : Bool) (old : List KeyArgs) (k : KeyArgs) → New o old → goes_down o ≡ Some k → gets ≡ true
+    → held_key (Next o gets loses old) k.device k.scan ≡ Some k
+gives_key o gets loses old k new g h =
     let left = cond loses [] (filter (λ l. not (ends o l)) old) in
     ap₂ (λ a b. held_key (key_given a b left) k.device k.scan) g h
     ∙ held_with k left k.device k.scan (left_none loses (λ l. not (ends o l)) old k.device k.scan (new k g))
     ∙ ap (λ b. cond b (Some k) (held_key left k.device k.scan)) (own_key k)
 
-stays_held : (o : Option Args) (hears loses : Bool) (old : List KeyArgs) (k : KeyArgs) → New o old → held_key old k.device k.scan ≡ Some k → (ends o k || loses) ≡ false
-    → held_key (Next o hears loses old) k.device k.scan ≡ Some k
-stays_held o hears loses old k new e n = by_given (goes_down o) hears refl (keeps_key o loses old k e n)
+stays_held : (o : Option Args) (gets loses : Bool) (old : List KeyArgs) (k : KeyArgs) → New o old → held_key old k.device k.scan ≡ Some k → (ends o k || loses) ≡ false
+    → held_key (Next o gets loses old) k.device k.scan ≡ Some k
+stays_held o gets loses old k new e n = by_given (goes_down o) gets refl (keeps_key o loses old k e n)
   where
     left : List KeyArgs
     left = cond loses [] (filter (λ l. not (ends o l)) old)

@@ -155,8 +155,8 @@ no_key d s gone true down old x a e =
     (cancels d s (λ k. true) down old x a e)
 
 -- a key that goes down
-down_sent : (d s : ℕ) (hears : Bool) (j : KeyArgs) (old : List KeyArgs) (x : Known) → j.down ≡ true → held_key old j.device j.scan ≡ None → KeyKnown (held_key old d s) x
-    → KeyKnown (held_key (key_given (Some j) hears old) d s) (all d s (cond hears (key_as_is j ∷ []) []) x)
+down_sent : (d s : ℕ) (gets : Bool) (j : KeyArgs) (old : List KeyArgs) (x : Known) → j.down ≡ true → held_key old j.device j.scan ≡ None → KeyKnown (held_key old d s) x
+    → KeyKnown (held_key (key_given (Some j) gets old) d s) (all d s (cond gets (key_as_is j ∷ []) []) x)
 down_sent d s false j old x e n h = h
 down_sent d s true j old x e n h = by_key (is_key d s j) refl
   where
@@ -218,25 +218,25 @@ abbrev pub NoLoss : Option Args → Bool → Type 0
 NoLoss (Some (KeyOfDevice j)) loses = loses ≡ false
 NoLoss o loses = Unit {0}
 
-pub keys_send : (d s : ℕ) (o : Option Args) (hears loses : Bool) (down : ℕ → ℕ → Bool) (old : List KeyArgs) (x : Known) → AllHeld down old → NoLoss o loses
+pub keys_send : (d s : ℕ) (o : Option Args) (gets loses : Bool) (down : ℕ → ℕ → Bool) (old : List KeyArgs) (x : Known) → AllHeld down old → NoLoss o loses
     → ((k : KeyArgs) → goes_down o ≡ Some k → (k.down ≡ true) × (held_key old k.device k.scan ≡ None)) → KeyKnown (held_key old d s) x
-    → KeyKnown (held_key (key_given (goes_down o) hears (cond loses [] (filter (λ k. not (ends o k)) old))) d s) (all d s (keys_sent o hears loses old) x)
-keys_send d s None hears loses down old x a n f h = no_key d s (ends None) loses down old x a h
-keys_send d s (Some (MotionArgs m)) hears loses down old x a n f h = no_key d s (ends (Some (MotionArgs m))) loses down old x a h
-keys_send d s (Some (Reset r)) hears loses down old x a n f h = no_key d s (ends (Some (Reset r))) loses down old x a h
-keys_send d s (Some (KeyOfDevice j)) hears loses down old x a n f h =
+    → KeyKnown (held_key (key_given (goes_down o) gets (cond loses [] (filter (λ k. not (ends o k)) old))) d s) (all d s (keys_sent o gets loses old) x)
+keys_send d s None gets loses down old x a n f h = no_key d s (ends None) loses down old x a h
+keys_send d s (Some (MotionArgs m)) gets loses down old x a n f h = no_key d s (ends (Some (MotionArgs m))) loses down old x a h
+keys_send d s (Some (Reset r)) gets loses down old x a n f h = no_key d s (ends (Some (Reset r))) loses down old x a h
+keys_send d s (Some (KeyOfDevice j)) gets loses down old x a n f h =
     subst
     (λ b.
-    KeyKnown (held_key (key_given (cond j.down (Some j) None) hears (cond b [] (filter (λ k. not (not j.down && same_key j k)) old))) d s)
-    (all d s (cond j.down (cond hears (key_as_is j ∷ []) []) (cond (list_any (same_key j) old) (key_as_is j ∷ []) [])) x))
+    KeyKnown (held_key (key_given (cond j.down (Some j) None) gets (cond b [] (filter (λ k. not (not j.down && same_key j k)) old))) d s)
+    (all d s (cond j.down (cond gets (key_as_is j ∷ []) []) (cond (list_any (same_key j) old) (key_as_is j ∷ []) [])) x))
     (sym n) (by_down j.down refl)
   where
     by_down : (b : Bool) → j.down ≡ b
-        → KeyKnown (held_key (key_given (cond b (Some j) None) hears (filter (λ k. not (not b && same_key j k)) old)) d s)
-        (all d s (cond b (cond hears (key_as_is j ∷ []) []) (cond (list_any (same_key j) old) (key_as_is j ∷ []) [])) x)
+        → KeyKnown (held_key (key_given (cond b (Some j) None) gets (filter (λ k. not (not b && same_key j k)) old)) d s)
+        (all d s (cond b (cond gets (key_as_is j ∷ []) []) (cond (list_any (same_key j) old) (key_as_is j ∷ []) [])) x)
     by_down true e =
-        subst (λ ks. KeyKnown (held_key (key_given (Some j) hears ks) d s) (all d s (cond hears (key_as_is j ∷ []) []) x)) (sym (filter_all (λ k. true) (λ k. refl) old))
-        (down_sent d s hears j old x e (f j (ap (λ b. cond b (Some j) None) e)).1 h)
+        subst (λ ks. KeyKnown (held_key (key_given (Some j) gets ks) d s) (all d s (cond gets (key_as_is j ∷ []) []) x)) (sym (filter_all (λ k. true) (λ k. refl) old))
+        (down_sent d s gets j old x e (f j (ap (λ b. cond b (Some j) None) e)).1 h)
     by_down false e = up_sent d s j old x e h
 
 -- a repeat of the last message of a key that is held

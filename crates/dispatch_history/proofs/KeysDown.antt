@@ -201,9 +201,9 @@ not_held down ks d s a n = by_key (held_key ks d s) refl
     by_key None e = e
     by_key (Some k) e = absurd (both_ways (down d s) n (held_is down ks d s k a e).1)
 
-held_step : (o : Option Args) (past : List Args) (hears loses : Bool) (old : List KeyArgs) → Keep (with_args o past) → AllHeld (down_keys past) old
-    → AllHeld (down_keys (with_args o past)) (key_given (goes_down o) hears (cond loses [] (filter (λ k. not (ends o k)) old)))
-held_step o past hears loses old keep a = by_given (goes_down o) refl hears (left loses)
+held_step : (o : Option Args) (past : List Args) (gets loses : Bool) (old : List KeyArgs) → Keep (with_args o past) → AllHeld (down_keys past) old
+    → AllHeld (down_keys (with_args o past)) (key_given (goes_down o) gets (cond loses [] (filter (λ k. not (ends o k)) old)))
+held_step o past gets loses old keep a = by_given (goes_down o) refl gets (left loses)
   where
     next : ℕ → ℕ → Bool
     next = down_keys (with_args o past)

@@ -36,9 +36,9 @@ abbrev pub has_late : List Effect → ℕ → Bool
 has_late es c = list_any (is_late es c (clock (past_of es))) (unfinished es c)
 
 -- a tick that reports the channel unresponsive
-abbrev pub is_named_by : Call → Reply → ℕ → Bool
-is_named_by (Tick now) (Named mask) c = mask_has mask c
-is_named_by call reply c = false
+abbrev pub is_reported_by : Call → Reply → ℕ → Bool
+is_reported_by (Tick now) (Named mask) c = mask_has mask c
+is_reported_by call reply c = false
 
 -- a successful finish of a message of the channel
 abbrev pub is_finish_of : Call → Reply → ℕ → Bool
@@ -46,9 +46,9 @@ is_finish_of (Finish now k seq) Done c = c == k
 is_finish_of call reply c = false
 
 -- the last step of a history reports the channel unresponsive
-abbrev pub names : History → ℕ → Bool
-names [] c = false
-names (e ∷ h) c = is_named_by e.0 e.1 c
+abbrev pub reports : History → ℕ → Bool
+reports [] c = false
+reports (e ∷ h) c = is_reported_by e.0 e.1 c
 
 -- the last step of a history finishes a message of the channel
 abbrev pub finishes : History → ℕ → Bool
@@ -59,7 +59,7 @@ finishes (e ∷ h) c = is_finish_of e.0 e.1 c
 abbrev pub unresponsive : List Effect → ℕ → Bool
 unresponsive [] c = false
 unresponsive (x ∷ before) c =
-    names x.past c
+    reports x.past c
     || elim (unresponsive before c) [ false ↦ false | true ↦ elim (finishes x.past c) [ false ↦ true | true ↦ has_late (x ∷ before) c ] ]
 
 -- a channel can take input if it is live and not unresponsive

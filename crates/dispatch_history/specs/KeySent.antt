@@ -28,19 +28,19 @@ key_cancelled k =
 
 -- What a window is sent for keys at a step, from the keys that it held before. A key goes down, if the window gets
 -- keys. A key that it holds goes up. Keys that it loses otherwise are cancelled.
-abbrev pub keys_sent : Option Args → (hears loses : Bool) → List KeyArgs → List KeyMsg
-keys_sent (Some (KeyOfDevice k)) hears loses held =
-    if k.down then (if hears then key_as_is k ∷ [] else []) else (if list_any (same_key k) held then key_as_is k ∷ [] else [])
-keys_sent args hears loses held = map key_cancelled (if loses then held else filter (ends args) held)
+abbrev pub keys_sent : Option Args → (gets loses : Bool) → List KeyArgs → List KeyMsg
+keys_sent (Some (KeyOfDevice k)) gets loses held =
+    if k.down then (if gets then key_as_is k ∷ [] else []) else (if list_any (same_key k) held then key_as_is k ∷ [] else [])
+keys_sent args gets loses held = map key_cancelled (if loses then held else filter (ends args) held)
 
 -- the last key message among those that a step sent, or else the one before
 abbrev pub key_in : ℕ → List Outgoing → Option Sent → Option Sent
 key_in now [] before = before
-key_in now (t ∷ ts) before = key_in now ts (key_of now t.channel t.body before)
+key_in now (t ∷ ts) before = key_in now ts (key_or now t.channel t.body before)
   where
-    key_of : ℕ → ℕ → Body → Option Sent → Option Sent
-    key_of now w (Key m) before = Some (record { channel = w; key = m; clock = now })
-    key_of now w body before = before
+    key_or : ℕ → ℕ → Body → Option Sent → Option Sent
+    key_or now w (Key m) before = Some (record { channel = w; key = m; clock = now })
+    key_or now w body before = before
 
 -- the last key message that was sent to any window
 abbrev pub last_key : List Effect → Option Sent

@@ -6,7 +6,7 @@ use Rattle.input_types.specs.declared.message.Args.TheVariants.{Key as KeyOfDevi
 use Rattle.dispatch_history.specs.History.{History, live}
 use Rattle.dispatch_history.specs.Focus.{is_target}
 use Rattle.dispatch_history.specs.Effect.{Effect, past_of}
-use Rattle.dispatch_history.specs.Delivery.{able, names}
+use Rattle.dispatch_history.specs.Delivery.{able, reports}
 
 -- the same key: the same scan code of the same device
 abbrev pub same_key : KeyArgs → KeyArgs → Bool
@@ -35,12 +35,12 @@ ends args l = false
 -- a window loses all its keys at a step, the last one of `after`, that reports it, or after which it is no longer the
 -- key target or not live
 abbrev pub loses_all : (after before : History) → ℕ → Bool
-loses_all after before w = is_target before w && not (is_target after w) || names after w || not (live after w)
+loses_all after before w = is_target before w && not (is_target after w) || reports after w || not (live after w)
 
 -- the keys that a step gives to a window: a key that goes down while the window is the key target and able
 abbrev pub key_given : Option KeyArgs → Bool → List KeyArgs → List KeyArgs
 key_given (Some k) true held = with_key k held
-key_given given hears held = held
+key_given given gets held = held
 
 -- The keys that a window holds, in rising order, as they went down: each was given while it was the key target and
 -- able, and neither ended nor lost since.

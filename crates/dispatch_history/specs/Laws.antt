@@ -14,7 +14,7 @@ use Rattle.dispatch_history.specs.Queue.{accepted, inbound}
 use Rattle.dispatch_history.specs.PointerOf.{PointerOf, IsDown, AllRise}
 use Rattle.dispatch_history.specs.Effect.{Effect, past_of, stream, dispatched, sent_on, sent_down, sent_focus, down_ids, is_key_down}
 use Rattle.dispatch_history.specs.Effects.{effects, said_at}
-use Rattle.dispatch_history.specs.Delivery.{able, unresponsive, names, finishes, has_late}
+use Rattle.dispatch_history.specs.Delivery.{able, unresponsive, reports, finishes, has_late}
 use Rattle.dispatch_history.specs.Step.{scene}
 use Rattle.routing_rules.specs.Fits.{Fits}
 use Rattle.routing_rules.specs.Outgoing.{devices}
@@ -59,15 +59,15 @@ abbrev pub UnresponsiveStep : Type 0
 UnresponsiveStep =
     (x : Effect) (before : List Effect) (c : ℕ)
     → unresponsive (x ∷ before) c
-    ≡ (names x.past c || unresponsive before c && not (finishes x.past c && not (has_late (x ∷ before) c)))
+    ≡ (reports x.past c || unresponsive before c && not (finishes x.past c && not (has_late (x ∷ before) c)))
 
 -- A channel that was able stays able unless the step reports or removes it. A channel that is able after a step that
 -- neither opens it nor finishes a message of it was able before.
 abbrev pub AbleStep : Type 0
 AbleStep =
     (x : Effect) (before : List Effect) (c : ℕ)
-    → (unresponsive before c ≡ false → able (x ∷ before) c ≡ (live x.past c && not (names x.past c)))
-    × (finishes x.past c ≡ false → able (x ∷ before) c ≡ (live x.past c && not (names x.past c || unresponsive before c)))
+    → (unresponsive before c ≡ false → able (x ∷ before) c ≡ (live x.past c && not (reports x.past c)))
+    × (finishes x.past c ≡ false → able (x ∷ before) c ≡ (live x.past c && not (reports x.past c || unresponsive before c)))
 
 -- Rounds after which nothing is chosen make the ordered run.
 abbrev pub OrderedSound : Type 0

@@ -21,7 +21,7 @@ use Rattle.dispatcher.specs.declared.tables.Routing.{Routing}
 use Rattle.dispatcher.specs.WindowCovers.Covers.{CoverTable}
 use Rattle.dispatcher.specs.Covering.{CoversGo, GivesNone}
 use Rattle.dispatcher.specs.Keying.{target_number}
-use Rattle.dispatcher.specs.Tables.{LetsNoneGo}
+use Rattle.dispatcher.specs.Tables.{ReleasesNone}
 
 -- the tables of touches change by a mark, at a place
 abbrev pub TakesMark : Mark → (place : ℕ) → (old new : List Touches) → Type 0
@@ -40,7 +40,7 @@ pub record CarriesOut (round : Round) (place clock : ℕ) (old new : Routing) : 
   pub touches : TakesMark round.mark place old.touches new.touches
   pub covers : CoversGo round.gift old.touches old.covers new.covers
   pub channels : SendsRound round old.touches new.covers old.shown.origins clock old.channels new.channels
-  pub gone_are : LetsNoneGo old.channels new.channels
+  pub gone_are : ReleasesNone old.channels new.channels
   pub repeat_is : new.repeat ≡ repeat_after clock round.target round.keys.now old.repeat
   pub displays_are : new.displays ≡ old.displays
   pub shown_is : new.shown ≡ old.shown

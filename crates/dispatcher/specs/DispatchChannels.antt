@@ -1,4 +1,4 @@
 pub mod Table
-pub mod Heard
+pub mod FromOrigin
 pub mod Changes
 pub mod Whole

@@ -3,5 +3,5 @@ pub mod Rounds
 pub mod Outgoing
 pub mod Saying
 pub mod Each
-pub mod Light
+pub mod Steady
 pub mod Past

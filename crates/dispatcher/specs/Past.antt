@@ -30,8 +30,8 @@ moved_last es device clock r c =
     }
 
 -- a channel that a mask has was sent one message more, which is released
-abbrev pub LetsGo : (sent : ℕ) → (old new : Table) → Type 0
-LetsGo sent old new =
+abbrev pub ReleasesSent : (sent : ℕ) → (old new : Table) → Type 0
+ReleasesSent sent old new =
     (c : ℕ) → 1 ≤ c → (channel_of new c).gone ≡ (if mask_has sent c then (channel_of old c).gone + 1 else (channel_of old c).gone)
 
 -- the stream of each channel ends with what it was sent
@@ -49,7 +49,7 @@ pub record PumpsPast (m : Motion) (sent place clock : ℕ) (old new : Routing) :
       → KeptStandsFor old.displays (step old.displays (Pump now) Dispatched es) (kept later new)
       × Streams es (step old.displays (Pump now) Dispatched es) m.device sent clock new
   pub displays_are : new.displays ≡ old.displays
-  pub lets_go : LetsGo sent old.channels new.channels
+  pub releases : ReleasesSent sent old.channels new.channels
   pub anrs_are : new.channels.anrs.gone ≡ old.channels.anrs.gone
 
 -- a Move is handed in and bypasses the channels: between the two steps only the queue differs
@@ -61,6 +61,6 @@ pub record GoesPast (now : ℕ) (m : Motion) (sent : ℕ) (old new : Tables) : T
       → TablesStandFor (step old.routing.displays (Pump now) Dispatched es) new
       × Streams es (step old.routing.displays (Pump now) Dispatched es) m.device sent (max now between.clock) new.routing
   pub displays_are : new.routing.displays ≡ old.routing.displays
-  pub lets_go : LetsGo sent old.routing.channels new.routing.channels
+  pub releases : ReleasesSent sent old.routing.channels new.routing.channels
   pub anrs_are : new.routing.channels.anrs.gone ≡ old.routing.channels.anrs.gone
   pub room_is : between.spare ≤ new.queueing.spare

@@ -2,7 +2,7 @@
 use Rattle.std.specs.Prelude.{◌≡◌, ℕ, ◌-◌, suc, max, List, [], ◌∷◌, ◌++◌, drop, length, Ok}
 use Rattle.input_types.specs.declared.message.Args.{Args}
 use Rattle.dispatcher.specs.declared.inbound.change.Change.{Change}
-use Rattle.dispatcher.specs.InboundArgs.Kept.{Kept}
+use Rattle.dispatcher.specs.InboundArgs.Kept.{DownSets}
 use Rattle.dispatcher.specs.InboundArgs.Down.{DevicesStandFor, PlansAt, Changes}
 use Rattle.dispatch_calls.specs.declared.call.Call.{Call}
 use Rattle.dispatch_calls.specs.declared.call.Call.TheVariants.{Notify, Pump}
@@ -21,7 +21,7 @@ pub record Queue : Type 0 where
   pub spare : ℕ
   -- for how many pumps there is room in the channels
   pub pumps : ℕ
-  pub down : List Kept
+  pub down : List DownSets
 
 -- it stands for the effects of a history
 pub record QueueIs (es : List Effect) (k : Queue) : Type 0 where
@@ -37,7 +37,7 @@ waiting_after (Pump now) Dispatched waiting = drop 1 waiting
 waiting_after call answer waiting = waiting
 
 -- what is down after a step: args that are taken change it as is planned for them
-abbrev pub DownGoes : Call → Reply → (old new : List Kept) → Type 0
+abbrev pub DownGoes : Call → Reply → (old new : List DownSets) → Type 0
 DownGoes (Notify now args) Taken old new = (c : Change) × PlansAt old args (Ok c) × Changes c old new
 DownGoes call answer old new = new ≡ old
 

@@ -32,9 +32,9 @@ use Rattle.dispatch_history.specs.Effects.{step, said_at}
 use Rattle.dispatch_history.specs.PointerOf.{RisesIn}
 use Rattle.dispatch_history.specs.Reply.{reply_to}
 use Rattle.dispatch_history.specs.Step.{scene}
-use Rattle.dispatcher.specs.DispatchChannels.Heard.{body_from}
+use Rattle.dispatcher.specs.DispatchChannels.FromOrigin.{body_from}
 use Rattle.dispatcher.specs.DispatchChannels.Table.{Table, channel_of, input_of, but_for_room}
-use Rattle.dispatcher.specs.DispatchChannels.Changes.{Opens}
+use Rattle.dispatcher.specs.DispatchChannels.Changes.{OpensChannel}
 use Rattle.dispatcher.specs.declared.dispatch_round.round.Round.{Round}
 use Rattle.dispatcher.specs.DispatchRound.Rounds.{IsStepIn, IsRound, AllHoldPointers, sent_in}
 use Rattle.dispatcher.specs.DispatchRound.Outgoing.{SendsAll}
@@ -107,7 +107,7 @@ OpenLaw =
 abbrev pub OpensLaw : Type 0
 OpensLaw =
     (terms : Terms) (number : ℕ) (old new : Table)
-    → Opens terms number old new → OpensWith terms number old new
+    → OpensChannel terms number old new → OpensWith terms number old new
 
 -- Where a channel is opened it alone can gain the focus, and nobody loses it.
 abbrev pub OpenFocusLaw : Type 0

@@ -34,7 +34,7 @@ abbrev pub TablesStandFor : List Effect → Tables → Type 0
 TablesStandFor es t = KeptStandsFor t.routing.displays es (kept t.queueing t.routing)
 
 -- of each channel as many messages were released as before, and as many ANRs
-pub record LetsNoneGo (old new : Table) : Type 0 where
+pub record ReleasesNone (old new : Table) : Type 0 where
   pub of_channels : (c : ℕ) → 1 ≤ c → (channel_of new c).gone ≡ (channel_of old c).gone
   pub of_anrs : new.anrs.gone ≡ old.anrs.gone
 
@@ -47,7 +47,7 @@ pub record Goes (call : ℕ → Call) (answer : Reply) (place clock : ℕ) (old 
       → KeptStandsFor old.displays es (kept queue old) → QueueGoes (call now) answer queue later
       → KeptStandsFor old.displays (step old.displays (call now) answer es) (kept later new)
   pub displays_are : new.displays ≡ old.displays
-  pub gone_are : LetsNoneGo old.channels new.channels
+  pub gone_are : ReleasesNone old.channels new.channels
 
 -- the same of a pump, where these args are the first ones that wait, or none wait
 pub record Pumps (first : Option Args) (answer : Reply) (place clock : ℕ) (old new : Routing) : Type 0 where
@@ -57,7 +57,7 @@ pub record Pumps (first : Option Args) (answer : Reply) (place clock : ℕ) (old
       → KeptStandsFor old.displays es (kept queue old) → QueueGoes (Pump now) answer queue later
       → KeptStandsFor old.displays (step old.displays (Pump now) answer es) (kept later new)
   pub displays_are : new.displays ≡ old.displays
-  pub gone_are : LetsNoneGo old.channels new.channels
+  pub gone_are : ReleasesNone old.channels new.channels
 
 -- The owner of a channel has its next message, where there is one: the tables of routing went one step on with what is to be
 -- answered, whether that message was released or not.
@@ -68,7 +68,7 @@ pub record HandsOn (channel : ℕ) (old new : Routing) : Type 0 where
       → QueueGoes (Receive channel) answer queue later
       → KeptStandsFor old.displays (step old.displays (Receive channel) answer es) (kept later new)
   pub displays_are : new.displays ≡ old.displays
-  pub gone_are : LetsNoneGo old.channels new.channels
+  pub gone_are : ReleasesNone old.channels new.channels
 
 -- They are the same, but for the room that the channels have, and that for keys that are cancelled. There is no less of it.
 abbrev pub SameButRoom : (old new : Routing) → Type 0
@@ -93,7 +93,7 @@ is_routed call = true
 pub record GoesOn (call : Call) (answer : Reply) (old new : Tables) : Type 0 where
   pub after : (es : List Effect) → TablesStandFor es old → TablesStandFor (step old.routing.displays call answer es) new
   pub displays_are : new.routing.displays ≡ old.routing.displays
-  pub gone_are : LetsNoneGo old.routing.channels new.routing.channels
+  pub gone_are : ReleasesNone old.routing.channels new.routing.channels
   pub room_is : old.queueing.spare ≤ new.queueing.spare + args_in call
 
 -- args are handed in and dispatched, one step after the other: between the two only the queue is another

@@ -3,14 +3,14 @@ ghost use Rattle.std.specs.Prelude.{◌≡◌, ℕ, suc, false, [], ◌∷◌, O
 ghost use Rattle.route_split.specs.declared.mark.Mark.TheVariants.{NoOp};
 ghost use Rattle.route_split.specs.Marking.{IsWhole};
 ghost use Rattle.dispatcher.specs.DispatchRound.Rounds.{AreListeners, IsReady, IsTimely, is_concerned};
-ghost use Rattle.dispatcher.specs.DispatchRound.Light.{IsLight};
+ghost use Rattle.dispatcher.specs.DispatchRound.Steady.{IsSteady};
 ghost use Rattle.dispatcher.specs.Carrying.{IsSilent, CarriesOut, CarriesFrom, CarriesSome};
 ghost use Rattle.dispatcher.specs.Covering.{CoversGo};
 ghost use Rattle.dispatcher.specs.Keying.{target_number};
 ghost use Rattle.dispatcher.specs.Roomy.{IsRoomy, AreModest, TakesRoom};
 ghost use Rattle.dispatcher.specs.Tables.{SameButRoom};
 
-use crate::dispatch_round::{Round, make_light_room, make_room, send_all, send_light};
+use crate::dispatch_round::{Round, make_room, make_steady_room, send_all, send_steady};
 use crate::key_tables::remember;
 use crate::tables::Routing;
 use crate::window_covers::Covers;
@@ -82,16 +82,16 @@ pub(crate) fn send(
     Ok(())
 }
 
-/// Does the same for a light round, which gives and takes no pointer. If memory runs out, only the room of channels
+/// Does the same for a steady round, which gives and takes no pointer. If memory runs out, only the room of channels
 /// changes. It is inlined, so that only the parts that the round has are looked at.
 #[inline(always)]
-pub(crate) fn send_lightly(
+pub(crate) fn send_steadily(
     routing: &mut Routing,
     round: &Round,
     place: u64,
     clock: Moment,
 ) -> Result<(), AllocError>
-    requires light { IsLight round.now }
+    requires steady { IsSteady round.now }
     requires timely { IsTimely clock routing.old.channels }
     ensures ok { OnOk result (CarriesFrom round.now place clock routing.old routing.new) }
     ensures err { OnErr result (SameButRoom routing.old routing.new) }
@@ -100,9 +100,9 @@ pub(crate) fn send_lightly(
         → IsOk result × IsRoomy n list routing.new.channels }
     ensures list { routing.new.cancelled ≡ routing.old.cancelled }
 {
-    let outgoing = make_light_room(round, &routing.touches, &mut routing.channels)?;
+    let outgoing = make_steady_room(round, &routing.touches, &mut routing.channels)?;
     give(&mut routing.covers, round, &routing.touches);
-    send_light(
+    send_steady(
         outgoing,
         round,
         &mut routing.touches,
@@ -141,7 +141,7 @@ pub(crate) fn send_key(
         lost: 0,
         gained: 0,
     };
-    send_lightly(routing, &round, place, clock)
+    send_steadily(routing, &round, place, clock)
 }
 
 /// Sends the key target keys, and windows the changes of the focus, while pointers change hands by a mark.

@@ -21,7 +21,7 @@
 //! are made from these. A table beside the channels, which always agrees with them, finds who is due.
 mod channels;
 mod due;
-mod heard;
+mod from_origin;
 mod mask;
 mod noted;
 mod publishing;

@@ -22,7 +22,6 @@
 //! (`IsRound` of specs/DispatchRound/Rounds), and assume nothing about earlier steps.
 mod concern;
 mod devices;
-mod light;
 mod listener;
 mod motions;
 mod past;
@@ -30,10 +29,11 @@ mod room;
 mod round;
 mod say;
 mod send;
+mod steady;
 
 pub use concern::listeners;
-pub use light::{make_light_room, send_light};
 pub use past::{keep_none, send_past};
 pub use room::make_room;
 pub use round::Round;
 pub use send::send_all;
+pub use steady::{make_steady_room, send_steady};

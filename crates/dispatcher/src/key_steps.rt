@@ -10,7 +10,7 @@ ghost use Rattle.dispatcher.specs.Roomy.{HasPumpRoom, IsRoomy};
 ghost use Rattle.dispatcher.specs.Tables.{Pumps, SameButRoom, due_repeat};
 
 use crate::carry::{no_change, send_key, send_still};
-use crate::key_tables::key_heard;
+use crate::key_tables::sent_for_key;
 use crate::tables::Routing;
 use input_types::{DeviceId, KeyArgs, KeyMsg, Moment};
 use route_split::Mark;
@@ -46,8 +46,8 @@ pub(crate) fn route_key(
     let Some(target) = listening(routing) else {
         return Ok(());
     };
-    let hears = mask_has(routing.channels.able(), target);
-    match key_heard(key, hears, routing.channels.input(target).keys()) {
+    let gets = mask_has(routing.channels.able(), target);
+    match sent_for_key(key, gets, routing.channels.input(target).keys()) {
         Some(message) => send_key(routing, message, place, clock),
         None => Ok(()),
     }

@@ -24,4 +24,4 @@ mod key_sent;
 pub mod laws;
 
 pub use focus::{focus_change, focusable};
-pub use key_sent::{key_heard, remember};
+pub use key_sent::{remember, sent_for_key};

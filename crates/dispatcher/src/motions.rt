@@ -10,7 +10,7 @@ ghost use Rattle.dispatcher.specs.DispatchRound.Rounds.{IsTimely};
 ghost use Rattle.dispatcher.specs.Roomy.{HasPumpRoom};
 ghost use Rattle.dispatcher.specs.Tables.{Goes, Pumps, SameButRoom};
 
-use crate::carry::{no_change, send, send_lightly, send_still};
+use crate::carry::{no_change, send, send_steadily, send_still};
 use crate::dispatch_round::Round;
 use crate::tables::Routing;
 use crate::window_covers::gift_of;
@@ -82,7 +82,7 @@ fn route_move(
         lost: 0,
         gained: 0,
     };
-    send_lightly(routing, &round, place, clock)
+    send_steadily(routing, &round, place, clock)
 }
 
 /// Whether the action is a Move.

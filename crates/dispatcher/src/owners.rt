@@ -41,7 +41,7 @@ pub(crate) fn receive(routing: &mut Routing, channel: u32)
     if !mask_has(routing.channels.live(), channel) {
         return;
     }
-    routing.channels.pass(channel);
+    routing.channels.receive_uncopied(channel);
 }
 
 /// The owner of a channel finishes a message.

@@ -11,7 +11,7 @@ ghost use Rattle.dispatcher.specs.Past.{GoesPast, PumpsPast};
 ghost use Rattle.dispatcher.specs.Roomy.{HasPumpRoom, KeepsPromise};
 ghost use Rattle.dispatcher.specs.Tables.{MayStep, SameAll, SameButRoom};
 
-use crate::dispatch_round::{Round, keep_none, make_light_room, send_past};
+use crate::dispatch_round::{Round, keep_none, make_steady_room, send_past};
 use crate::inbound::Change;
 use crate::tables::{Routing, Tables};
 use input_types::{Moment, Motion};
@@ -50,7 +50,7 @@ fn route_past(
         lost: 0,
         gained: 0,
     };
-    let outgoing = make_light_room(&round, &routing.touches, &mut routing.channels)?;
+    let outgoing = make_steady_room(&round, &routing.touches, &mut routing.channels)?;
     if !keep_none(outgoing, &routing.channels) {
         return Ok(None);
     }

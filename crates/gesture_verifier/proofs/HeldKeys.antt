@@ -13,7 +13,7 @@ use Rattle.std.specs.declared.cmp.Ordering.TheVariants.{Less, Equal, Greater}
 use Rattle.gesture_verifier.specs.Held.{are_rising, is_before, is_held, key_at}
 use Rattle.std.specs.Cmp.{unsigned_tied}
 use Rattle.gesture_verifier.proofs.Tables.{not_both, within_key}
-use Rattle.gesture_verifier.specs.Told.{are_places, due_at, due_kept, is_of_device, is_place, place_of}
+use Rattle.gesture_verifier.specs.Told.{are_places, due_at, due_kept, is_of_device, is_place, key_place}
 
 both : (a b : Bool) → (a && b) ≡ true → (a ≡ true) × (b ≡ true)
 both true b h = (refl, h)
@@ -81,17 +81,17 @@ keys_rise (k ∷ ks) h = rw (all_before k ks (h.0), keys_rise ks (h.1)) refl
 of_device : (d s : ℕ) → 1 ≤ d → d ≤ 8 → s < 65536 → is_of_device d s ≡ true
 of_device d s a b c = grind (arith, nat_tests)
 
-same_key : (d s k : ℕ) → is_of_device d s ≡ true → is_place k ≡ true → (nat_eq (key_at k).device d && nat_eq (key_at k).scan s) ≡ is_eq (nat_cmp (place_of d s) k)
+same_key : (d s k : ℕ) → is_of_device d s ≡ true → is_place k ≡ true → (nat_eq (key_at k).device d && nat_eq (key_at k).scan s) ≡ is_eq (nat_cmp (key_place d s) k)
 same_key d s k own p =
     let in_range : (1 ≤ d) × (d ≤ 8) × (s < 65536) = within_key d s own in
     ⊎_elim
-    (λ (same : place_of d s ≡ k).
+    (λ (same : key_place d s ≡ k).
     let device : k / 65536 + 1 ≡ d = omega (arith, in_range, same) in
     let scan : k % 65536 ≡ s = omega (arith, in_range, same) in
-    rw (unsigned_tied (place_of d s) k, device, scan, same, eq-eqb d d refl, eq-eqb s s refl, eq-eqb k k refl) refl)
-    (λ (other : place_of d s ≢ k).
-    rw (unsigned_tied (place_of d s) k, ne_eqb (place_of d s) k other) (not_both (k / 65536 + 1) d (k % 65536) s (λ x y. other (omega (arith, x, y)))))
-    (cases_eq (place_of d s) k)
+    rw (unsigned_tied (key_place d s) k, device, scan, same, eq-eqb d d refl, eq-eqb s s refl, eq-eqb k k refl) refl)
+    (λ (other : key_place d s ≢ k).
+    rw (unsigned_tied (key_place d s) k, ne_eqb (key_place d s) k other) (not_both (k / 65536 + 1) d (k % 65536) s (λ x y. other (omega (arith, x, y)))))
+    (cases_eq (key_place d s) k)
 
 other_key : (d s k : ℕ) → is_of_device d s ≡ false → is_place k ≡ true → (nat_eq (key_at k).device d && nat_eq (key_at k).scan s) ≡ false
 other_key d s k other p =
@@ -100,7 +100,7 @@ other_key d s k other p =
     let own : is_of_device d s ≡ true = of_device d s (omega (arith, x)) (omega (arith, x, placed)) (omega (arith, y)) in
     false≢true (sym other ∙ own))
 
-among : (d s : ℕ) (ks : List ℕ) → is_of_device d s ≡ true → list_all is_place ks ≡ true → is_held d s (map key_at ks) ≡ list_any (λ k. is_eq (nat_cmp (place_of d s) k)) ks
+among : (d s : ℕ) (ks : List ℕ) → is_of_device d s ≡ true → list_all is_place ks ≡ true → is_held d s (map key_at ks) ≡ list_any (λ k. is_eq (nat_cmp (key_place d s) k)) ks
 among d s [] own p = refl
 among d s (k ∷ ks) own p =
     let here = both (is_place k) (list_all is_place ks) p in
@@ -113,8 +113,8 @@ not_among d s (k ∷ ks) other p =
     rw (other_key d s k other (here.0), not_among d s ks other (here.1)) refl
 
 held_at : (d s : ℕ) (es : List (ℕ × ℕ)) (v : Bool) → is_of_device d s ≡ v → are_places es ≡ true
-    → is_held d s (map key_at (keys_of es)) ≡ is_some (if v then due_at es (place_of d s) else None)
-held_at d s es true own p = among d s (keys_of es) own p ∙ sym (is_some-lookup (λ k. is_eq (nat_cmp (place_of d s) k)) es)
+    → is_held d s (map key_at (keys_of es)) ≡ is_some (if v then due_at es (key_place d s) else None)
+held_at d s es true own p = among d s (keys_of es) own p ∙ sym (is_some-lookup (λ k. is_eq (nat_cmp (key_place d s) k)) es)
 held_at d s es false other p = not_among d s (keys_of es) other p
 
 pub held_exactly : (d s : ℕ) (es : List (ℕ × ℕ)) → are_places es ≡ true → is_held d s (map key_at (keys_of es)) ≡ is_some (due_kept es d s)

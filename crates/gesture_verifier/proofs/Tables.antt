@@ -13,7 +13,7 @@ use Rattle.input_types.specs.declared.message.Body.TheVariants.{Motion as Motion
 use Rattle.input_types.specs.Gestures.{after_sent}
 use Rattle.input_types.specs.StreamRule.{StreamState, unsent, with_ids, with_repeat, after_key, after_body}
 use Rattle.pointers_down.proofs.Sets.{none_listed}
-use Rattle.gesture_verifier.specs.Told.{Told, state_of, is_device, is_of_device, ids_kept, due_at, due_kept, place_of}
+use Rattle.gesture_verifier.specs.Told.{Told, state_of, is_device, is_of_device, ids_kept, due_at, due_kept, key_place}
 
 within : (d : ℕ) → is_device d ≡ true → (1 ≤ d) × (d ≤ 8)
 within d h = grind arith
@@ -67,20 +67,20 @@ pub within_key : (d t : ℕ) → is_of_device d t ≡ true → (1 ≤ d) × (d �
 within_key d t h = grind arith
 
 due_kept_at : (table old : List (ℕ × ℕ)) (d s : ℕ) (due : Option ℕ) (e t : ℕ) → is_of_device d s ≡ true
-    → ((q : ℕ) → due_at table q ≡ cond (is_eq (nat_cmp (place_of d s) q)) due (due_at old q)) → (v : Bool) → is_of_device e t ≡ v
-    → (if v then due_at table (place_of e t) else None) ≡ (if nat_eq e d && nat_eq t s then due else (if v then due_at old (place_of e t) else None))
+    → ((q : ℕ) → due_at table q ≡ cond (is_eq (nat_cmp (key_place d s) q)) due (due_at old q)) → (v : Bool) → is_of_device e t ≡ v
+    → (if v then due_at table (key_place e t) else None) ≡ (if nat_eq e d && nat_eq t s then due else (if v then due_at old (key_place e t) else None))
 due_kept_at table old d s due e t h kept true w =
     let a : (1 ≤ d) × (d ≤ 8) × (s < 65536) = within_key d s h in
     let b : (1 ≤ e) × (e ≤ 8) × (t < 65536) = within_key e t w in
     ⊎_elim
-    (λ (same : place_of d s ≡ place_of e t).
+    (λ (same : key_place d s ≡ key_place e t).
     let keys : t ≡ s = omega (arith, a, b, same) in
     let devices : e ≡ d = omega (arith, a, b, same) in
-    rw (kept (place_of e t), unsigned_tied (place_of d s) (place_of e t), devices, keys, eq-eqb d d refl, eq-eqb s s refl, eq-eqb (place_of d s) (place_of d s) refl) refl)
-    (λ (other : place_of d s ≢ place_of e t).
+    rw (kept (key_place e t), unsigned_tied (key_place d s) (key_place e t), devices, keys, eq-eqb d d refl, eq-eqb s s refl, eq-eqb (key_place d s) (key_place d s) refl) refl)
+    (λ (other : key_place d s ≢ key_place e t).
     let apart : (nat_eq e d && nat_eq t s) ≡ false = not_both e d t s (λ x y. other (rw (x, y) refl)) in
-    rw (kept (place_of e t), unsigned_tied (place_of d s) (place_of e t), ne_eqb (place_of d s) (place_of e t) other, apart) refl)
-    (cases_eq (place_of d s) (place_of e t))
+    rw (kept (key_place e t), unsigned_tied (key_place d s) (key_place e t), ne_eqb (key_place d s) (key_place e t) other, apart) refl)
+    (cases_eq (key_place d s) (key_place e t))
 due_kept_at table old d s due e t h kept false w =
     let apart : (nat_eq e d && nat_eq t s) ≡ false =
     not_both e d t s (λ x y. let own : is_of_device e t ≡ true = rw (x, y) h in false≢true (sym w ∙ own)) in
@@ -88,7 +88,7 @@ due_kept_at table old d s due e t h kept false w =
 
 -- a new due number for one key
 pub due_kept_after : (table old : List (ℕ × ℕ)) (d s : ℕ) (due : Option ℕ) → is_of_device d s ≡ true
-    → ((q : ℕ) → due_at table q ≡ cond (is_eq (nat_cmp (place_of d s) q)) due (due_at old q))
+    → ((q : ℕ) → due_at table q ≡ cond (is_eq (nat_cmp (key_place d s) q)) due (due_at old q))
     → due_kept table ≡ with_repeat (due_kept old) d s due
 due_kept_after table old d s due h kept i e t = due_kept_at table old d s due e t h kept (is_of_device e t) refl i
 
@@ -114,8 +114,8 @@ motion_taken old m held after h len is e =
 
 -- a key message that may come
 pub key_taken : (old : Told) (table : List (ℕ × ℕ)) (m : KeyMsg) (due next : Option ℕ) → is_of_device m.key.device m.key.scan ≡ true
-    → due ≡ due_at old.repeats (place_of m.key.device m.key.scan) → Some next ≡ after_key due m
-    → ((q : ℕ) → due_at table q ≡ cond (is_eq (nat_cmp (place_of m.key.device m.key.scan) q)) next (due_at old.repeats q))
+    → due ≡ due_at old.repeats (key_place m.key.device m.key.scan) → Some next ≡ after_key due m
+    → ((q : ℕ) → due_at table q ≡ cond (is_eq (nat_cmp (key_place m.key.device m.key.scan) q)) next (due_at old.repeats q))
     → after_body (state_of old) (Key m) ≡ Some (state_of (record old { repeats = table }))
 key_taken old table m due next h is e kept =
     let Next : Option ℕ → StreamState =

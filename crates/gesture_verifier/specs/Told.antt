@@ -32,8 +32,8 @@ abbrev pub is_of_device : ℕ → ℕ → Bool
 is_of_device d s = is_device d && nat_lt s 65536
 
 -- the place of a key among those of all devices: the keys of one device are together, in the order of their scan codes
-abbrev pub place_of : ℕ → ℕ → ℕ
-place_of device scan = (device - 1) * 65536 + scan
+abbrev pub key_place : ℕ → ℕ → ℕ
+key_place device scan = (device - 1) * 65536 + scan
 
 -- there are 65536 places for each of the 8 devices
 abbrev pub is_place : ℕ → Bool
@@ -49,7 +49,7 @@ due_at repeats place = lookup (λ k. is_eq (nat_cmp place k)) repeats
 
 -- the next repeat number of a key; a key without one is up
 abbrev pub due_kept : List (ℕ × ℕ) → ℕ → ℕ → Option ℕ
-due_kept repeats d s = if is_of_device d s then due_at repeats (place_of d s) else None
+due_kept repeats d s = if is_of_device d s then due_at repeats (key_place d s) else None
 
 -- what a window knows, from the tables
 abbrev pub state_of : Told → StreamState

@@ -2,7 +2,7 @@
 ghost use Rattle.std.specs.Prelude.{◌≡◌, ◌<◌, ℕ, true, IsTrue, OnErr, OnOk, cond};
 ghost use Rattle.std.specs.Ordering.{nat_cmp, is_eq};
 ghost use Rattle.input_types.specs.StreamRule.{after_key};
-ghost use Rattle.gesture_verifier.specs.Told.{are_places, due_at, is_of_device, place_of};
+ghost use Rattle.gesture_verifier.specs.Told.{are_places, due_at, is_of_device, key_place};
 
 use input_types::{KeyArgs, KeyMsg};
 use pointers_down::ends;
@@ -31,7 +31,7 @@ pub fn next_repeat(due: Option<u64>, message: &KeyMsg) -> Option<Option<u64>>
 
 /// The index of a key among those of all devices: the keys of one device stand together.
 pub fn place(key: &KeyArgs) -> u32
-    ensures place { result ≡ place_of key.now.device key.now.scan }
+    ensures place { result ≡ key_place key.now.device key.now.scan }
     ensures key { IsTrue (is_of_device key.now.device key.now.scan) }
     ensures range { result < 524288 }
 {

@@ -8,7 +8,7 @@ use Rattle.dispatch_history.specs.Given.{next_of_lane, without_next, calls_of_la
 use Rattle.dispatch_history.specs.Plan.{ScriptStep}
 use Rattle.schedule.specs.declared.plan.Step.{Step}
 use Rattle.schedule.specs.Planned.{step_of}
-use Rattle.given_run.specs.Lanes.{place_of, IsLeft}
+use Rattle.given_run.specs.Lanes.{search_from, IsLeft}
 
 abbrev pub first : List Call → Option Call
 first [] = None
@@ -77,14 +77,14 @@ none_behind steps l at le = ap (calls_of_lane l) (drop-map step_of at steps ∙ 
 
 -- a lane with a next step, and the index after it
 pub lane_moves : (steps left : List ScriptStep) (places : List ℕ) (l : ℕ) (at : ℕ) (call : Call) → length places ≡ 256 → l < 256 → IsLeft steps left places
-    → calls_of_lane l (drop (place_of places l) steps) ≡ call ∷ calls_of_lane l (drop at steps)
+    → calls_of_lane l (drop (search_from places l) steps) ≡ call ∷ calls_of_lane l (drop at steps)
     → (next_of_lane l left ≡ Some call) × IsLeft steps (without_next l left) (slice_set places l at)
 lane_moves steps left places l at call wide low is here =
     (next_is l left ∙ ap first (is l low ∙ here), λ m lt. by_lane m lt (cases_eq m l))
   where
-    by_lane : (m : ℕ) → m < 256 → (m ≡ l) ⊎ (m ≡ l → ⊥) → calls_of_lane m (without_next l left) ≡ calls_of_lane m (drop (place_of (slice_set places l at) m) steps)
+    by_lane : (m : ℕ) → m < 256 → (m ≡ l) ⊎ (m ≡ l → ⊥) → calls_of_lane m (without_next l left) ≡ calls_of_lane m (drop (search_from (slice_set places l at) m) steps)
     by_lane m lt (inl e) =
-        subst (λ k. calls_of_lane k (without_next l left) ≡ calls_of_lane k (drop (place_of (slice_set places l at) k) steps)) (sym e)
+        subst (λ k. calls_of_lane k (without_next l left) ≡ calls_of_lane k (drop (search_from (slice_set places l at) k) steps)) (sym e)
         (others_left l left ∙ ap others (is l low ∙ here)
         ∙ sym (ap (λ k. calls_of_lane l (drop k steps)) (get_or-set_same places l at 0 (omega (arith, wide, low)))))
     by_lane m lt (inr ne) =
@@ -92,9 +92,9 @@ lane_moves steps left places l at call wide low is here =
 
 -- a lane none of whose steps is left
 pub lane_ends : (steps left : List ScriptStep) (places : List ℕ) (l : ℕ) → l < 256 → IsLeft steps left places
-    → calls_of_lane l (drop (place_of places l) steps) ≡ [] → next_of_lane l left ≡ None
+    → calls_of_lane l (drop (search_from places l) steps) ≡ [] → next_of_lane l left ≡ None
 lane_ends steps left places l low is none = next_is l left ∙ ap first (is l low ∙ none)
 
 -- at first all steps are left
 pub all_left : (steps : List ScriptStep) (places : List ℕ) (n : ℕ) → places ≡ replicate n 0 → 256 ≤ n → IsLeft steps steps places
-all_left steps places n e le l lt = sym (ap (λ k. calls_of_lane l (drop k steps)) (ap (λ xs. place_of xs l) e ∙ get_or-replicate n l 0 0 (omega (arith, lt, le))))
+all_left steps places n e le l lt = sym (ap (λ k. calls_of_lane l (drop k steps)) (ap (λ xs. search_from xs l) e ∙ get_or-replicate n l 0 0 (omega (arith, lt, le))))

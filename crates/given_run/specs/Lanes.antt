@@ -7,12 +7,12 @@ use Rattle.schedule.specs.Planned.{step_of}
 use Rattle.dispatch_history.specs.Given.{calls_of_lane}
 
 -- the index from which the next step of a lane is searched
-abbrev pub place_of : List ℕ → ℕ → ℕ
-place_of places l = slice_index_or places l 0
+abbrev pub search_from : List ℕ → ℕ → ℕ
+search_from places l = slice_index_or places l 0
 
 -- What is left of some steps has the same calls of each lane as the steps from the lane's place on.
 abbrev pub IsLeft : List ScriptStep → List ScriptStep → List ℕ → Type 0
-IsLeft steps left places = (l : ℕ) → l < 256 → calls_of_lane l left ≡ calls_of_lane l (drop (place_of places l) steps)
+IsLeft steps left places = (l : ℕ) → l < 256 → calls_of_lane l left ≡ calls_of_lane l (drop (search_from places l) steps)
 
 -- the calls of the steps of a lane from a place on
 abbrev pub calls_from : List Step → ℕ → ℕ → List Call

@@ -14,7 +14,7 @@ use Rattle.cursor_core.specs.declared.call.CursorCall.{CursorCall}
 use Rattle.cursor_core.specs.declared.call.CursorCall.TheVariants.{Moved}
 use Rattle.cursor_core.specs.Calls.{Screen, moment_of}
 use Rattle.cursor_core.specs.Cursor.{CursorStandsFor}
-use Rattle.cursor_core.specs.Kept.{Kept}
+use Rattle.cursor_core.specs.Kept.{CursorState}
 use Rattle.cursor_core.specs.Packets.{has_motion, is_end, latest, motion_by, motion_of, packet, sum_of}
 use Rattle.session_plan.specs.declared.plan.Display.{Display}
 use Rattle.session_plan.specs.Plan.{PlanData}
@@ -125,7 +125,7 @@ newest m [] h = refl
 newest m (c ∷ cs) h = rw (le-leb (moment_of c) (moment_of m) h) refl
 
 -- the cursor took a motion after the steps up to its moment
-pub motion_made : (d : Screen) (steps : List Step) (all : List CursorCall) (m : CursorCall) (h : HoverState) (k : Kept) → (made : HasMade d steps all (moment_of m) h)
+pub motion_made : (d : Screen) (steps : List Step) (all : List CursorCall) (m : CursorCall) (h : HoverState) (k : CursorState) → (made : HasMade d steps all (moment_of m) h)
     → due_of (moment_of m) (slice_get steps h.next) ≡ None → IsNonDecreasingBy (λ (s : Step). s.at) steps → CursorStandsFor d (m ∷ made.made) k
     → HasMade d steps (placed m all) (moment_of m) (record { cursor = k; reader = h.reader; next = h.next })
 motion_made d steps all m h k made none up stands = record {

@@ -11,18 +11,18 @@ use Rattle.gesture_verifier.specs.Told.{Told, VerifierStandsFor, one_more, state
 use Rattle.inputflinger_c.specs.declared.fault.PlainFault.{PlainFault}
 use Rattle.plain_calls.specs.Numbers.{flag}
 use Rattle.inputflinger_c.specs.Faults.{reason_number}
-use Rattle.plain_calls.specs.Status.{is_ok, is_free, is_taken, no_memory, out_of_range, is_broken}
+use Rattle.plain_calls.specs.Status.{status_ok, is_free, is_taken, no_memory, out_of_range, is_broken}
 
 -- what a handle has after `new`: a handle that is not free keeps its judge; otherwise it has one that was shown
 -- nothing, or memory ran out
-abbrev pub Opens : Option Told → ℕ → Option Told → Type 0
-Opens (Some told) status new = (status ≡ is_taken) × (new ≡ Some told)
-Opens None status None = status ≡ no_memory
-Opens None status (Some new) = (status ≡ is_ok) × VerifierStandsFor [] new
+abbrev pub JudgeOpens : Option Told → ℕ → Option Told → Type 0
+JudgeOpens (Some told) status new = (status ≡ is_taken) × (new ≡ Some told)
+JudgeOpens None status None = status ≡ no_memory
+JudgeOpens None status (Some new) = (status ≡ status_ok) × VerifierStandsFor [] new
 
 -- a handle is free after `free`, and the status says whether it was free before
 abbrev pub Frees : Option Told → ℕ → Option Told → Type 0
-Frees told status new = (status ≡ (if is_some told then is_ok else is_free)) × (new ≡ None)
+Frees told status new = (status ≡ (if is_some told then status_ok else is_free)) × (new ≡ None)
 
 -- what a judge knows after a message that it accepted: it stands for the stream with one more message
 pub record Accepts (old : Told) (m : Message) (new : Told) : Type 0 where
@@ -42,13 +42,13 @@ pub record Refuses (told : Told) (m : Message) (f : PlainFault) : Type 0 where
 
 -- the statuses of a step of a judge
 abbrev pub is_step : ℕ → Bool
-is_step status = list_any (λ s. nat_eq s status) (is_ok ∷ no_memory ∷ is_broken ∷ [])
+is_step status = list_any (λ s. nat_eq s status) (status_ok ∷ no_memory ∷ is_broken ∷ [])
 
 -- The result of a step of a judge: the message was accepted, or memory ran out at a key, or the message may not come.
 -- In the last two cases the judge stays as it was. Only the last case writes the fault.
 pub record Steps (status : ℕ) (old : Told) (m : Message) (new : Told) (before after : PlainFault) : Type 0 where
   pub one : is_step status ≡ true
-  pub ok : status ≡ is_ok → Accepts old m new × (after ≡ before)
+  pub ok : status ≡ status_ok → Accepts old m new × (after ≡ before)
   pub memory : status ≡ no_memory → (new ≡ old) × ((after ≡ before) × (is_key m.body ≡ true))
   pub broken : status ≡ is_broken → (new ≡ old) × Refuses old m after
 

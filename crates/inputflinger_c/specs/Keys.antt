@@ -5,7 +5,7 @@ use Rattle.gesture_verifier.specs.Held.{are_rising, is_held}
 use Rattle.gesture_verifier.specs.Told.{Told, state_of}
 use Rattle.gesture_verifier.specs.declared.held.HeldKey.{HeldKey}
 use Rattle.inputflinger_c.specs.declared.judge_keys.PlainKey.{PlainKey}
-use Rattle.plain_calls.specs.Status.{is_ok, is_free, no_memory, no_room}
+use Rattle.plain_calls.specs.Status.{status_ok, is_free, no_memory, no_room}
 
 -- a key as C gets it
 abbrev pub plain_key : HeldKey → PlainKey
@@ -13,7 +13,7 @@ plain_key k = record { device = k.device; scan = k.scan }
 
 -- the statuses of a call that returns keys
 abbrev pub is_sent : ℕ → Bool
-is_sent status = list_any (λ s. nat_eq s status) (is_ok ∷ no_room ∷ [])
+is_sent status = list_any (λ s. nat_eq s status) (status_ok ∷ no_room ∷ [])
 
 -- The keys that are down, in rising order, and how many they are; they are written to the first places if there is
 -- room for all of them, and otherwise none is.
@@ -23,7 +23,7 @@ pub record SendsKeys (told : Told) (status : ℕ) (before after : List PlainKey)
   pub exact : (d s : ℕ) → is_held d s keys ≡ is_some ((state_of told).repeats d s)
   pub counted : count ≡ length keys
   pub one : is_sent status ≡ true
-  pub ok : status ≡ is_ok → after ≡ map plain_key keys ++ drop (length keys) before
+  pub ok : status ≡ status_ok → after ≡ map plain_key keys ++ drop (length keys) before
   pub small : status ≡ no_room → (length before < length keys) × (after ≡ before)
 
 -- the result of returning them, by whether memory ran out

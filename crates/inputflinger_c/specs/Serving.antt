@@ -5,7 +5,7 @@ use Rattle.live_input.specs.Seats.{vacant}
 use Rattle.live_input.specs.Standing.{LiveIs}
 use Rattle.live_input.specs.declared.limit.Limited.{Limited}
 use Rattle.live_input.specs.Limit.{first_wanted}
-use Rattle.plain_calls.specs.Status.{is_ok, is_free, is_taken, no_memory, out_of_range}
+use Rattle.plain_calls.specs.Status.{status_ok, is_free, is_taken, no_memory, out_of_range}
 
 -- A free handle stays free, the status says so, and this is unchanged; a service changes as the call says.
 abbrev pub OnService : Option Limited → ℕ → Option Limited → (unchanged : Type 0) → (Limited → Limited → Type 0) → Type 0
@@ -15,16 +15,16 @@ OnService (Some old) status (Some new) unchanged Goes = Goes old new
 
 -- a handle is free after `free`, and the status says whether it was free before
 abbrev pub LiveFrees : Option Limited → ℕ → Option Limited → Type 0
-LiveFrees old status new = (status ≡ (if is_some old then is_ok else is_free)) × (new ≡ None)
+LiveFrees old status new = (status ≡ (if is_some old then status_ok else is_free)) × (new ≡ None)
 
 -- A service at its start: it stands for no call, on these terms and displays, with no client and no device.
-pub record Begins (terms : Terms) (displays : List ℕ) (s : Limited) : Type 0 where
+pub record IsNewService (terms : Terms) (displays : List ℕ) (s : Limited) : Type 0 where
   pub start : LiveIs displays [] s.live
   pub terms_are : s.live.terms ≡ terms
   pub clock : s.live.clock ≡ 0
   pub seats : s.live.seats ≡ replicate 64 vacant
   pub opened : s.live.opened ≡ 0
-  pub named : s.live.named ≡ 0
+  pub named : s.live.reported ≡ 0
   pub devices : s.live.devices ≡ replicate 8 None
   pub pending : s.live.pending ≡ []
   pub wanted : s.wanted ≡ first_wanted 10000
@@ -36,4 +36,4 @@ LiveOpens (Some old) terms displays status new = (status ≡ is_taken) × (new �
 LiveOpens None None displays status new = (status ≡ out_of_range) × (new ≡ None)
 LiveOpens None (Some ts) None status new = (status ≡ out_of_range) × (new ≡ None)
 LiveOpens None (Some ts) (Some ds) status None = status ≡ no_memory
-LiveOpens None (Some ts) (Some ds) status (Some new) = (status ≡ is_ok) × Begins ts ds new
+LiveOpens None (Some ts) (Some ds) status (Some new) = (status ≡ status_ok) × IsNewService ts ds new

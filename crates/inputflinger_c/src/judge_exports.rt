@@ -1,5 +1,5 @@
 //! The calls of a judge.
-ghost use Rattle.inputflinger_c.specs.Judging.{Opens, Frees, Steps, StepGoes};
+ghost use Rattle.inputflinger_c.specs.Judging.{JudgeOpens, Frees, Steps, StepGoes};
 ghost use Rattle.std.specs.Prelude.{nat_eq};
 ghost use Rattle.inputflinger_c.specs.Keys.{KeysGo, KeysSent};
 ghost use Rattle.plain_calls.specs.Status.{no_memory};
@@ -20,7 +20,7 @@ use std::alloc::Global;
 /// memory runs out; the handle then stays as it was.
 #[unsafe(no_mangle)]
 pub extern "C" fn inputflinger_proved_judge_new(alloc: Global, judge: &mut Judge) -> u32
-    ensures { Opens judge.old.cell.told result judge.new.cell.told }
+    ensures { JudgeOpens judge.old.cell.told result judge.new.cell.told }
 {
     if judge.is_open() {
         return TAKEN;

@@ -4,7 +4,7 @@ ghost use Rattle.plain_calls.specs.Asking.{HasFocus, GetsKeys, Responds, Holds, 
 ghost use Rattle.plain_calls.specs.Calling.{Reads, Replies, answer_status, written};
 ghost use Rattle.plain_calls.specs.Clients.{client_of, plain_client};
 ghost use Rattle.plain_calls.specs.Numbers.{device_of, display_of};
-ghost use Rattle.plain_calls.specs.Status.{is_ok};
+ghost use Rattle.plain_calls.specs.Status.{status_ok};
 ghost use Rattle.inputflinger_c.specs.Serving.{OnService};
 
 use crate::service::Service;
@@ -61,7 +61,7 @@ pub extern "C" fn inputflinger_proved_live_is_responsive(
     answer: &mut u8,
 ) -> u32
     ensures { OnService live.old.cell.state result live.new.cell.state (answer.new ≡ answer.old)
-        (λ old new. (result ≡ is_ok) × ((new ≡ old) × Responds old.live (client_of client.now) answer.new)) }
+        (λ old new. (result ≡ status_ok) × ((new ≡ old) × Responds old.live (client_of client.now) answer.new)) }
 {
     let Some(mut service) = live.take(alloc) else {
         return FREE;
@@ -82,7 +82,7 @@ pub extern "C" fn inputflinger_proved_live_holds(
 ) -> u32
     ensures { OnService live.old.cell.state result live.new.cell.state (ids.new ≡ ids.old)
         (λ old new. (new ≡ old) × Reads (device_of device) result (ids.new ≡ ids.old)
-        (λ d. (result ≡ is_ok) × Holds old.live (client_of client.now) d ids.new)) }
+        (λ d. (result ≡ status_ok) × Holds old.live (client_of client.now) d ids.new)) }
 {
     let Some(mut service) = live.take(alloc) else {
         return FREE;
@@ -100,7 +100,7 @@ pub extern "C" fn inputflinger_proved_live_clock(
     moment_us: &mut u64,
 ) -> u32
     ensures { OnService live.old.cell.state result live.new.cell.state (moment_us.new ≡ moment_us.old)
-        (λ old new. (result ≡ is_ok) × ((new ≡ old) × IsClock old.live moment_us.new)) }
+        (λ old new. (result ≡ status_ok) × ((new ≡ old) × IsClock old.live moment_us.new)) }
 {
     let Some(mut service) = live.take(alloc) else {
         return FREE;

@@ -9,7 +9,7 @@ ghost use Rattle.plain_calls.specs.Replies.{open_status, close_status};
 ghost use Rattle.inputflinger_c.specs.Serving.{OnService};
 ghost use Rattle.live_input.specs.Seats.{is_open, user_data_of};
 ghost use Rattle.plain_calls.specs.Asking.{client_on, AnswersClient};
-ghost use Rattle.plain_calls.specs.Status.{is_ok};
+ghost use Rattle.plain_calls.specs.Status.{status_ok};
 
 use crate::service::Service;
 use plain_calls::status::{FREE, OK};
@@ -66,7 +66,7 @@ pub extern "C" fn inputflinger_proved_live_is_open(
     answer: &mut u8,
 ) -> u32
     ensures { OnService live.old.cell.state result live.new.cell.state (answer.new ≡ answer.old)
-        (λ old new. (result ≡ is_ok) × ((new ≡ old)
+        (λ old new. (result ≡ status_ok) × ((new ≡ old)
         × (answer.new ≡ flag (is_open old.live.seats (client_of client.now))))) }
 {
     let Some(mut service) = live.take(alloc) else {

@@ -2,7 +2,7 @@
 ghost use Rattle.std.specs.Prelude.{IfOk};
 ghost use Rattle.plain_calls.specs.Repeats.{terms_of};
 ghost use Rattle.plain_calls.specs.Screens.{displays_of};
-ghost use Rattle.inputflinger_c.specs.Serving.{Begins, LiveFrees, LiveOpens};
+ghost use Rattle.inputflinger_c.specs.Serving.{IsNewService, LiveFrees, LiveOpens};
 
 use crate::service::Service;
 use dispatch_calls::Terms;
@@ -48,7 +48,7 @@ pub extern "C" fn inputflinger_proved_live_new(
 /// the large frame of a service with a register that held one of them.
 #[inline(never)]
 fn boxed(alloc: Global, terms: Terms, displays: &Displays) -> Result<Box<Limited>, AllocError>
-    ensures { IfOk result (λ b. Begins terms displays.now b.value) }
+    ensures { IfOk result (λ b. IsNewService terms displays.now b.value) }
 {
     let live = Limited::new(alloc, terms, displays)?;
     Ok(Box::new(alloc, live)?)

@@ -5,7 +5,7 @@ ghost use Rattle.plain_calls.specs.Clients.{client_of};
 ghost use Rattle.plain_calls.specs.Getting.{AreWaiting, Received, Finished, Pilfered};
 ghost use Rattle.plain_calls.specs.Numbers.{device_of, moment_of};
 ghost use Rattle.plain_calls.specs.Replies.{next_status, message_in, finish_status, pilfer_status};
-ghost use Rattle.plain_calls.specs.Status.{is_ok};
+ghost use Rattle.plain_calls.specs.Status.{status_ok};
 ghost use Rattle.plain_calls.specs.Told.{told_to};
 ghost use Rattle.inputflinger_c.specs.Serving.{OnService};
 
@@ -85,7 +85,7 @@ pub extern "C" fn inputflinger_proved_live_waiting(
     mask: &mut u64,
 ) -> u32
     ensures { OnService live.old.cell.state result live.new.cell.state (mask.new ≡ mask.old)
-        (λ old new. (result ≡ is_ok) × ((new ≡ old) × AreWaiting old.live mask.new)) }
+        (λ old new. (result ≡ status_ok) × ((new ≡ old) × AreWaiting old.live mask.new)) }
 {
     let Some(mut service) = live.take(alloc) else {
         return FREE;

@@ -9,7 +9,7 @@ use Rattle.device_reader.specs.SlotAccumulator.SlotContacts.{contacts_at, contac
 use Rattle.device_reader.specs.SlotAccumulator.SlotValues.{current, is_abs, is_slot, row, value}
 use Rattle.device_reader.specs.PointerIds.PointerIds.{assigned, is_cancelled, named_after}
 use Rattle.device_reader.specs.TouchMapper.Gesture.{as_args, gesture, placed_all}
-use Rattle.key_mapper.specs.Key.{key_of}
+use Rattle.key_mapper.specs.Key.{key_args_of}
 use Rattle.device_reader.specs.Cooked.{DevicePlan, Keys, KeysPlan, TouchPlan, Touches, args_of, device_args, key_args, key_list, kind_args, number_of, touch_args}
 use Rattle.device_reader.specs.Packets.{is_key, key_event, key_events, packets, since_drop}
 use Rattle.recording_counts.specs.Events.{is_keys_used, is_touch_used}
@@ -111,10 +111,10 @@ key_events_same (e ∷ past) =
     ]
 
 key_args_same : (plan : KeysPlan) (past : List RawEvent) (e : RawEvent) → is_keys_used e ≡ true → key_args plan (filter is_keys_used past) e ≡ key_args plan past e
-key_args_same plan past e used = λ i. if is_key e then key_list (key_of plan.device plan.layout (key_events_same past i) (key_event e)) else []
+key_args_same plan past e used = λ i. if is_key e then key_list (key_args_of plan.device plan.layout (key_events_same past i) (key_event e)) else []
 
 key_args_none : (plan : KeysPlan) (past : List RawEvent) (e : RawEvent) → is_keys_used e ≡ false → key_args plan past e ≡ []
-key_args_none plan past e unused = ap (λ key. if key then key_list (key_of plan.device plan.layout (key_events past) (key_event e)) else []) (no_key e unused)
+key_args_none plan past e unused = ap (λ key. if key then key_list (key_args_of plan.device plan.layout (key_events past) (key_event e)) else []) (no_key e unused)
 
 -- touch devices
 record Skipped (e : RawEvent) : Type 0 where

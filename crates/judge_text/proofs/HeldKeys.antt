@@ -11,7 +11,7 @@ use Rattle.input_types.specs.Gestures.{allowed, after_sent, differ}
 use Rattle.input_types.specs.StreamRule.{StreamState, after_body, after_key, stream_state, unsent, with_ids, with_repeat}
 use Rattle.gesture_verifier.specs.declared.held.HeldKey.{HeldKey}
 use Rattle.gesture_verifier.specs.Held.{are_rising, is_before, is_held}
-use Rattle.judge_text.specs.Down.{is_same, key_of, keys_after, keys_with, with_key, without_key}
+use Rattle.judge_text.specs.Down.{is_same, held_key_of, keys_after, keys_with, with_key, without_key}
 
 pub both : (a b : Bool) → (a && b) ≡ true → (a ≡ true) × (b ≡ true)
 both true b h = (refl, h)
@@ -94,7 +94,7 @@ rise_by false k ks h = rises_filtered (λ q. not (is_same k q)) ks h
 
 rise_after : (b : Body) (ks : List HeldKey) → are_rising ks ≡ true → are_rising (keys_with b ks) ≡ true
 rise_after (Motion m) ks h = h
-rise_after (Key m) ks h = rise_by m.key.down (key_of m) ks h
+rise_after (Key m) ks h = rise_by m.key.down (held_key_of m) ks h
 rise_after (Focus b) ks h = h
 
 pub keys_rise : (past : List Message) → are_rising (keys_after past) ≡ true
@@ -189,11 +189,11 @@ due_by false d s k ks down up repeat old due e h =
 key_step : (t s : StreamState) (m : KeyMsg) (d k : ℕ) (ks : List HeldKey) (o : Option (Option ℕ)) → after_key (t.repeats m.key.device m.key.scan) m ≡ o
     → option_map (λ due. record { ids = t.ids; repeats = with_repeat t.repeats m.key.device m.key.scan due; focus = t.focus }) o ≡ Some s
     → is_held d k ks ≡ is_some (t.repeats d k)
-    → is_held d k (if m.key.down then with_key (key_of m) ks else without_key (key_of m) ks) ≡ is_some (s.repeats d k)
+    → is_held d k (if m.key.down then with_key (held_key_of m) ks else without_key (held_key_of m) ks) ≡ is_some (s.repeats d k)
 key_step t s m d k ks None e is h = absurd (cc)
 key_step t s m d k ks (Some due) e is h =
     let same : record { ids = t.ids; repeats = with_repeat t.repeats m.key.device m.key.scan due; focus = t.focus } ≡ s = cc in
-    due_by m.key.down d k (key_of m) ks _ _ m.repeat (t.repeats d k) due e h ∙ ap (λ (x : StreamState). is_some (x.repeats d k)) same
+    due_by m.key.down d k (held_key_of m) ks _ _ m.repeat (t.repeats d k) due e h ∙ ap (λ (x : StreamState). is_some (x.repeats d k)) same
 
 motion_step : (t s : StreamState) (d k : ℕ) (ids : List ℕ → ℕ → List ℕ) (held : Bool) (o : Option (List ℕ))
     → option_map (λ down. record { ids = ids down; repeats = t.repeats; focus = t.focus }) o ≡ Some s

@@ -43,13 +43,13 @@ abbrev pub without_key : HeldKey → List HeldKey → List HeldKey
 without_key k qs = filter (λ q. not (is_same k q)) qs
 
 -- the key of a key message
-abbrev pub key_of : KeyMsg → HeldKey
-key_of m = record { device = m.key.device; scan = m.key.scan }
+abbrev pub held_key_of : KeyMsg → HeldKey
+held_key_of m = record { device = m.key.device; scan = m.key.scan }
 
 -- the keys that are down after a message, where these were down before it
 abbrev pub keys_with : Body → List HeldKey → List HeldKey
 keys_with (Motion m) keys = keys
-keys_with (Key m) keys = if m.key.down then with_key (key_of m) keys else without_key (key_of m) keys
+keys_with (Key m) keys = if m.key.down then with_key (held_key_of m) keys else without_key (held_key_of m) keys
 keys_with (Focus b) keys = keys
 
 -- the keys that are down after messages

@@ -12,16 +12,16 @@ abbrev pub is_other : List ℕ → Bool
 is_other first = bytes_eq first (codes "axis") || (bytes_eq first (codes "led") || (bytes_eq first (codes "sensor") || bytes_eq first (codes "requires_kernel_config")))
 
 -- a key by its scan code and its name
-abbrev pub key_of : Option ℕ → List ℕ → Line
-key_of None name = BadLine
-key_of (Some scan) name = if is_name name then Key scan (code_of_name name) else BadName
+abbrev pub key_line : Option ℕ → List ℕ → Line
+key_line None name = BadLine
+key_line (Some scan) name = if is_name name then Key scan (code_of_name name) else BadName
 
 -- what follows the word `key`: `usage` and anything, or a scan code, a name and perhaps flags
 unfoldable pub key_said : List ℕ → Line
 key_said bs =
     if bytes_eq (word bs) (codes "usage") then PassedOver
     else if length (word (behind_word bs)) == 0 then BadLine
-    else key_of (scan_of (word bs)) (word (behind_word bs))
+    else key_line (scan_of (word bs)) (word (behind_word bs))
 
 -- what a line without a comment says
 unfoldable pub said : List ℕ → Line

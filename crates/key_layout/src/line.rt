@@ -1,6 +1,6 @@
 //! What one line of a key layout says.
 ghost use Rattle.std.specs.Prelude.{◌≡◌};
-ghost use Rattle.key_layout.specs.Line.{is_other, key_of, key_said, line_said, said};
+ghost use Rattle.key_layout.specs.Line.{is_other, key_line, key_said, line_said, said};
 
 use crate::key_name::{code_of_name, is_name};
 use crate::text::{content, next_word, scan_of, without_comment};
@@ -22,8 +22,8 @@ fn is_other(first: &[u8]) -> bool
             || (first == b"sensor".as_slice() || first == b"requires_kernel_config".as_slice()))
 }
 
-fn key_of(scan: Option<u16>, name: &[u8]) -> Line
-    ensures { result ≡ key_of scan name.now }
+fn key_line(scan: Option<u16>, name: &[u8]) -> Line
+    ensures { result ≡ key_line scan name.now }
 {
     match scan {
         None => Line::BadLine,
@@ -52,7 +52,7 @@ fn key_said(bytes: &[u8]) -> Line
     } else if name.is_empty() {
         Line::BadLine
     } else {
-        key_of(scan_of(scan), name)
+        key_line(scan_of(scan), name)
     }
 }
 

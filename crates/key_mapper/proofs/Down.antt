@@ -5,7 +5,7 @@ use Rattle.std.specs.Ordering.{nat_cmp, is_eq}
 use Rattle.std.proofs.Common.{sym, ◌∙◌, ap, refl, arith}
 use Rattle.std.proofs.lemmas.Bool.{eqb-true}
 use Rattle.key_layout.specs.Layout.{Codes, found_at, code_at}
-use Rattle.key_mapper.specs.Key.{KeyEvent, is_down, meta_of, key_of}
+use Rattle.key_mapper.specs.Key.{KeyEvent, is_down, meta_of, key_args_of}
 use Rattle.key_mapper.specs.Held.{Held, KeysStandFor}
 
 pub same_key : (a b : ℕ) → is_eq (nat_cmp a b) ≡ nat_eq b a
@@ -61,12 +61,12 @@ is_held k past scan c stands some = down_at k.layout scan c (is_down scan past) 
 
 pub press_gives : (device : ℕ) (layout : Codes) (past : List KeyEvent) (scan : ℕ) → is_down scan past ≡ false
     → Some (record { device = device; scan = scan; code = code_at layout scan; meta = meta_of layout (record { scan = scan; value = pos 1 } ∷ past); down = true })
-    ≡ key_of device layout past (record { scan = scan; value = pos 1 })
+    ≡ key_args_of device layout past (record { scan = scan; value = pos 1 })
 press_gives device layout past scan up =
     ap (λ (d : Bool). if (true && not d) || (false && d) then Some (record { device = device; scan = scan; code = code_at layout scan; meta = meta_of layout (record { scan = scan; value = pos 1 } ∷ past); down = true }) else None) (sym up)
 
 pub release_gives : (device : ℕ) (layout : Codes) (past : List KeyEvent) (scan : ℕ) → is_down scan past ≡ true
     → Some (record { device = device; scan = scan; code = code_at layout scan; meta = meta_of layout (record { scan = scan; value = pos 0 } ∷ past); down = false })
-    ≡ key_of device layout past (record { scan = scan; value = pos 0 })
+    ≡ key_args_of device layout past (record { scan = scan; value = pos 0 })
 release_gives device layout past scan down =
     ap (λ (d : Bool). if (false && not d) || (true && d) then Some (record { device = device; scan = scan; code = code_at layout scan; meta = meta_of layout (record { scan = scan; value = pos 0 } ∷ past); down = false }) else None) (sym down)

@@ -48,7 +48,7 @@ abbrev pub changes : List KeyEvent → KeyEvent → Bool
 changes past e = (is_press e && not (is_down e.scan past)) || (is_release e && is_down e.scan past)
 
 -- what an event of a device gives: the key where the event changes what is down, with the meta bits of the keys that are down after it
-abbrev pub key_of : ℕ → Codes → List KeyEvent → KeyEvent → Option KeyArgs
-key_of device layout past e =
+abbrev pub key_args_of : ℕ → Codes → List KeyEvent → KeyEvent → Option KeyArgs
+key_args_of device layout past e =
     if changes past e then Some (record { device = device; scan = e.scan; code = code_at layout e.scan; meta = meta_of layout (e ∷ past); down = is_press e })
     else None

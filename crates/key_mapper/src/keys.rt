@@ -1,6 +1,6 @@
 //! The keys of a device.
 ghost use Rattle.std.specs.Prelude.{◌≡◌, List, [], ◌∷◌, IfOk, OnOk, OnErr, pos};
-ghost use Rattle.key_mapper.specs.Key.{KeyEvent, key_of};
+ghost use Rattle.key_mapper.specs.Key.{KeyEvent, key_args_of};
 ghost use Rattle.key_mapper.specs.Held.{KeysStandFor, bits, counts};
 
 use crate::modifiers::Modifiers;
@@ -57,7 +57,7 @@ impl Keys {
     pub fn take(&mut self, scan: u16, value: i32) -> Result<Option<KeyArgs>, AllocError>
         ensures ok { (past : List KeyEvent) → KeysStandFor past self.old
             → IfOk result (λ key. key
-            ≡ key_of self.old.device self.old.layout past (record { scan = scan; value = value })) }
+            ≡ key_args_of self.old.device self.old.layout past (record { scan = scan; value = value })) }
         ensures after { (past : List KeyEvent) → KeysStandFor past self.old
             → OnOk result (KeysStandFor (record { scan = scan; value = value } ∷ past) self.new) }
         ensures device { self.new.device ≡ self.old.device }
@@ -74,7 +74,7 @@ impl Keys {
     fn press(&mut self, scan: u16) -> Result<Option<KeyArgs>, AllocError>
         ensures ok { (past : List KeyEvent) → KeysStandFor past self.old
             → IfOk result (λ key. key
-            ≡ key_of self.old.device self.old.layout past (record { scan = scan; value = pos 1 })) }
+            ≡ key_args_of self.old.device self.old.layout past (record { scan = scan; value = pos 1 })) }
         ensures after { (past : List KeyEvent) → KeysStandFor past self.old
             → OnOk result (KeysStandFor (record { scan = scan; value = pos 1 } ∷ past) self.new) }
         ensures device { self.new.device ≡ self.old.device }
@@ -95,7 +95,7 @@ impl Keys {
 
     fn release(&mut self, scan: u16) -> Option<KeyArgs>
         ensures ok { (past : List KeyEvent) → KeysStandFor past self.old
-            → result ≡ key_of self.old.device self.old.layout past (record { scan = scan; value = pos 0 }) }
+            → result ≡ key_args_of self.old.device self.old.layout past (record { scan = scan; value = pos 0 }) }
         ensures after { (past : List KeyEvent) → KeysStandFor past self.old
             → KeysStandFor (record { scan = scan; value = pos 0 } ∷ past) self.new }
         ensures device { self.new.device ≡ self.old.device }

@@ -10,7 +10,7 @@ use Rattle.dispatch_calls.specs.declared.call.Call.{Call}
 use Rattle.dispatch_calls.specs.declared.call.Call.TheVariants.{Open, Tick, Receive, Finish}
 use Rattle.dispatch_calls.specs.declared.reply.Reply.{Reply}
 use Rattle.dispatch_calls.specs.declared.reply.Reply.TheVariants.{Opened, Got, Done}
-use Rattle.dispatch_history.specs.Delivery.{able, has_late, is_finish_of, is_late, is_named_by, unfinished, unresponsive}
+use Rattle.dispatch_history.specs.Delivery.{able, has_late, is_finish_of, is_late, is_reported_by, unfinished, unresponsive}
 use Rattle.dispatch_history.specs.Effect.{Effect, past_of}
 use Rattle.dispatch_history.specs.Effects.{effect_of, step, said_at}
 use Rattle.dispatch_history.specs.History.{clock, live}
@@ -62,19 +62,19 @@ none_before ds call answer es c l other none =
 
 -- a step that reports a channel leaves its late message
 not_reported : (ds : List ℕ) (call : Call) (answer : Reply) (es : List Effect) (c : ℕ) → Lawful ds (step ds call answer es)
-    → is_finish_of call answer c ≡ false → unfinished (step ds call answer es) c ≡ [] → is_named_by call answer c ≡ false
+    → is_finish_of call answer c ≡ false → unfinished (step ds call answer es) c ≡ [] → is_reported_by call answer c ≡ false
 not_reported ds call answer es c l other none =
     let last = lawful_last ds call answer es l in
-    elim (cases_Bool (is_named_by call answer c)) [
+    elim (cases_Bool (is_reported_by call answer c)) [
       | inl is ↦
           absurd
           (tick_mask ds es last.1 call c
-          (subst (λ a. is_named_by call a c ≡ true) last.0 is)
+          (subst (λ a. is_reported_by call a c ≡ true) last.0 is)
           (ap (λ (us : List Message). slice_get us 0) (none_before ds call answer es c l other none)))
       | inr not ↦ not
     ]
 
-no_finish_named : (call : Call) (answer : Reply) (c : ℕ) → is_finish_of call answer c ≡ true → is_named_by call answer c ≡ false
+no_finish_named : (call : Call) (answer : Reply) (c : ℕ) → is_finish_of call answer c ≡ true → is_reported_by call answer c ≡ false
 no_finish_named (Tick now) answer c e = absurd (true≢false (sym e))
 no_finish_named call answer c e = refl
 
@@ -89,7 +89,7 @@ and_false false = refl
 by_finish : (ds : List ℕ) (call : Call) (answer : Reply) (es : List Effect) (c : ℕ) → Lawful ds (step ds call answer es)
     → (unfinished es c ≡ [] → unresponsive es c ≡ false) → unfinished (step ds call answer es) c ≡ []
     → (b : Bool) → is_finish_of call answer c ≡ b
-    → (is_named_by call answer c || unresponsive es c && not (b && not (has_late (step ds call answer es) c))) ≡ false
+    → (is_reported_by call answer c || unresponsive es c && not (b && not (has_late (step ds call answer es) c))) ≡ false
 by_finish ds call answer es c l before none true is =
     let late : has_late (step ds call answer es) c ≡ false =
     ap (λ us. list_any (is_late (step ds call answer es) c (clock (past_of (step ds call answer es)))) us) none in

@@ -15,7 +15,7 @@ use Rattle.dispatcher.specs.DispatchTables.Lawful.{Lawful}
 use Rattle.dispatcher.proofs.DispatchTables.Unopened.{unopened_not_live}
 use Rattle.live_input.specs.declared.limit.Limited.{Limited}
 use Rattle.live_input.specs.declared.client.Seat.{Seat}
-use Rattle.live_input.specs.Easing.{Chokes, IsCalm, KeepsNamed}
+use Rattle.live_input.specs.Easing.{Chokes, IsCalm, KeepsReported}
 use Rattle.live_input.specs.Limit.{is_choked, unreceived}
 use Rattle.live_input.specs.Seats.{IsHeld, is_held, seat_of}
 use Rattle.live_input.specs.Standing.{AreSeated, IsMaskOfHeld, LiveIs}
@@ -192,7 +192,7 @@ pub chokes_same : (es : List Effect) (s : Limited)
 chokes_same es s are =
     record {
       choked_are = are;
-      named_are = λ c. or_none (mask_has s.live.named c) _ (not_and_so (mask_has s.wanted.choked c));
+      reported_are = λ c. or_none (mask_has s.live.reported c) _ (not_and_so (mask_has s.wanted.choked c));
       shown_is = sym (ap (λ b. s.wanted.is_shown && b) (eq-eqb s.wanted.choked s.wanted.choked refl) ∙ and_true s.wanted.is_shown);
       live_is = refl;
       wanted_is = refl;
@@ -200,23 +200,23 @@ chokes_same es s are =
 
 -- others are choked than before
 pub chokes_other : (es : List Effect) (old : Limited) (live : LiveState) (wanted : Wanted) (mask named : ℕ)
-    → live ≡ record old.live { named = named } → wanted ≡ record old.wanted { choked = mask; is_shown = false }
+    → live ≡ record old.live { reported = named } → wanted ≡ record old.wanted { choked = mask; is_shown = false }
     → ((c : ℕ) → mask_has mask c ≡ is_choked old.wanted.most old.wanted.choked old.live.seats es c)
-    → ((c : ℕ) → mask_has named c ≡ (mask_has old.live.named c || (mask_has mask c && not (mask_has old.wanted.choked c))))
+    → ((c : ℕ) → mask_has named c ≡ (mask_has old.live.reported c || (mask_has mask c && not (mask_has old.wanted.choked c))))
     → (((c : ℕ) → mask_has mask c ≡ mask_has old.wanted.choked c) → ⊥) → Chokes es old (record { live = live; wanted = wanted })
 chokes_other es old live wanted mask named el ew are reported other =
     record {
       choked_are = λ c. ap (λ (w : Wanted). mask_has w.choked c) ew ∙ are c;
-      named_are = λ c.
-          ap (λ (l : LiveState). mask_has l.named c) el
+      reported_are = λ c.
+          ap (λ (l : LiveState). mask_has l.reported c) el
           ∙ reported c
-          ∙ sym (ap (λ (w : Wanted). mask_has old.live.named c || (mask_has w.choked c && not (mask_has old.wanted.choked c))) ew);
+          ∙ sym (ap (λ (w : Wanted). mask_has old.live.reported c || (mask_has w.choked c && not (mask_has old.wanted.choked c))) ew);
       shown_is =
           ap (λ (w : Wanted). w.is_shown) ew
           ∙ sym (ap (λ (w : Wanted). old.wanted.is_shown && (w.choked == old.wanted.choked)) ew
           ∙ ap (λ b. old.wanted.is_shown && b) (ne_eqb mask old.wanted.choked (λ e. other (λ c. ap (λ m. mask_has m c) e)))
           ∙ and_right old.wanted.is_shown false refl);
-      live_is = el ∙ sym (ap (λ (l : LiveState). record old.live { named = l.named }) el);
+      live_is = el ∙ sym (ap (λ (l : LiveState). record old.live { reported = l.reported }) el);
       wanted_is = ew ∙ sym (ap (λ (w : Wanted). record old.wanted { choked = w.choked; is_shown = w.is_shown }) ew);
     }
 
@@ -234,16 +234,16 @@ reports now before named late new e less c =
 -- each of these has a client
 pub reported_held : (ds : List ℕ) (es : List Effect) (s : LiveState) (most choked mask named : ℕ) → LiveIs ds es s
     → ((c : ℕ) → mask_has mask c ≡ is_choked most choked s.seats es c)
-    → ((c : ℕ) → mask_has named c ≡ (mask_has s.named c || (mask_has mask c && not (mask_has choked c)))) → IsMaskOfHeld named s.seats
+    → ((c : ℕ) → mask_has named c ≡ (mask_has s.reported c || (mask_has mask c && not (mask_has choked c)))) → IsMaskOfHeld named s.seats
 reported_held ds es s most choked mask named h are reported = λ c is.
-    elim (or_cases (mask_has s.named c) (mask_has mask c && not (mask_has choked c)) (sym (reported c) ∙ is)) [
-      | inl was ↦ h.named_are c was
+    elim (or_cases (mask_has s.reported c) (mask_has mask c && not (mask_has choked c)) (sym (reported c) ∙ is)) [
+      | inl was ↦ h.reported_are c was
       | inr new ↦
           let x = and_parts (mask_has mask c) (not (mask_has choked c)) new in
           choked_held most choked s.seats es c (sym (are c) ∙ x.0)
     ]
 
-pub reports_keep : (old new : ℕ) (late : ℕ → Bool) → ((c : ℕ) → mask_has new c ≡ (mask_has old c || late c)) → KeepsNamed old new
+pub reports_keep : (old new : ℕ) (late : ℕ → Bool) → ((c : ℕ) → mask_has new c ≡ (mask_has old c || late c)) → KeepsReported old new
 reports_keep old new late e = λ c is. e c ∙ ap (λ b. b || late c) is
 
 -- where nothing is to be eased, the same clients are choked

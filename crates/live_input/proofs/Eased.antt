@@ -12,7 +12,7 @@ use Rattle.live_input.specs.declared.client.Client.{Client}
 use Rattle.live_input.specs.declared.limit.Limited.{Limited}
 use Rattle.live_input.specs.declared.windows.ClientWindow.{ClientWindow}
 use Rattle.live_input.specs.Answers.{SameClients, SameRest}
-use Rattle.live_input.specs.Easing.{AsksWanted, Chokes, Eases, IfElse, IsCalm, KeepsNamed, at_clock}
+use Rattle.live_input.specs.Easing.{AsksWanted, Chokes, Eases, IfElse, IsCalm, KeepsReported, at_clock}
 use Rattle.live_input.specs.Limit.{are_placed, asked_last, asked_on, askings, eased_by, is_choked, is_placed, shown_again, walled, wanted_on}
 use Rattle.live_input.specs.Showing.{channel_of}
 use Rattle.live_input.specs.Standing.{LiveIs}
@@ -61,7 +61,7 @@ last_goes ds now y w es old new k there same at other h =
 -- all else is the same
 pub rest_none : (s : LiveState) → SameRest s s
 rest_none s =
-    record { seats_are = refl; opened_is = refl; terms_are = refl; devices_are = refl; pending_is = refl; fingers_are = refl; named_is = refl; clock_is = refl }
+    record { seats_are = refl; opened_is = refl; terms_are = refl; devices_are = refl; pending_is = refl; fingers_are = refl; reported_is = refl; clock_is = refl }
 
 pub rest_same : (s t : LiveState) → t ≡ s → SameRest s t
 rest_same s t e = subst (SameRest s) (sym e) (rest_none s)
@@ -75,11 +75,11 @@ rest_then s t u p q =
       devices_are = q.devices_are ∙ p.devices_are;
       pending_is = q.pending_is ∙ p.pending_is;
       fingers_are = q.fingers_are ∙ p.fingers_are;
-      named_is = q.named_is ∙ p.named_is;
+      reported_is = q.reported_is ∙ p.reported_is;
       clock_is = q.clock_is ∙ p.clock_is;
     }
 
-pub rest_by : (now : ℕ) (s t : LiveState) → SameClients s t → t.named ≡ s.named → (s.clock ≤ t.clock) × (t.clock ≤ latest now s) → s.clock ≡ now
+pub rest_by : (now : ℕ) (s t : LiveState) → SameClients s t → t.reported ≡ s.reported → (s.clock ≤ t.clock) × (t.clock ≤ latest now s) → s.clock ≡ now
     → SameRest s t
 rest_by now s t p named clock at =
     let low = clock.0 in let high = clock.1 in
@@ -90,7 +90,7 @@ rest_by now s t p named clock at =
       devices_are = p.devices_are;
       pending_is = p.pending_is;
       fingers_are = p.fingers_are;
-      named_is = named;
+      reported_is = named;
       clock_is = omega (arith, low, high, at);
     }
 
@@ -101,7 +101,7 @@ pub clients_raised : (s t : LiveState) (n : ℕ) → t ≡ record s { clock = n 
 clients_raised s t n e =
     subst (SameClients s) (sym e) (record { seats_are = refl; opened_is = refl; terms_are = refl; devices_are = refl; pending_is = refl; fingers_are = refl })
 
-pub clients_named : (s t : LiveState) (n : ℕ) → t ≡ record s { named = n } → SameClients s t
+pub clients_named : (s t : LiveState) (n : ℕ) → t ≡ record s { reported = n } → SameClients s t
 clients_named s t n e =
     subst (SameClients s) (sym e) (record { seats_are = refl; opened_is = refl; terms_are = refl; devices_are = refl; pending_is = refl; fingers_are = refl })
 
@@ -263,7 +263,7 @@ pub clocked : (now : ℕ) (old raised choked : LiveState) (n : ℕ) → n ≡ la
 clocked now old raised choked n is e same = same ∙ ap (λ (l : LiveState). l.clock) e ∙ sym is
 
 -- what was reported stays so
-pub named_then : (old raised choked new : ℕ) → raised ≡ old → KeepsNamed raised choked → new ≡ choked → KeepsNamed old new
+pub named_then : (old raised choked new : ℕ) → raised ≡ old → KeepsReported raised choked → new ≡ choked → KeepsReported old new
 named_then old raised choked new e keeps same = λ c is.
     ap (λ n. mask_has n c) same ∙ keeps c (ap (λ n. mask_has n c) e ∙ is)
 

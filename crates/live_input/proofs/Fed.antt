@@ -12,7 +12,7 @@ use Rattle.raw_events.specs.declared.event.RawEvent.{RawEvent}
 use Rattle.raw_events.specs.Packets.{is_report, is_drop, is_void}
 use Rattle.device_reader.specs.TouchMapper.Gesture.{gesture, as_args}
 use Rattle.key_layout.specs.Layout.{code_at}
-use Rattle.key_mapper.specs.Key.{KeyEvent, changes, is_press, key_of, meta_of}
+use Rattle.key_mapper.specs.Key.{KeyEvent, changes, is_press, key_args_of, meta_of}
 use Rattle.device_reader.specs.Packets.{since_drop, is_key, key_event, key_events}
 use Rattle.device_reader.specs.Cooked.{TouchPlan, KeysPlan, DevicePlan, Touches, Keys, number_of, pointers_at, cancelled_at, key_list, kind_args, args_of, device_args}
 use Rattle.device_reader.specs.Rule.{down_at}
@@ -55,7 +55,7 @@ from_key plan ks k true = (refl, tt)
 from_key plan ks k false = tt
 
 from_keys : (plan : KeysPlan) (past : List RawEvent) (e : RawEvent) (t : Bool)
-    → AllFrom plan.device (cond t (key_list (key_of plan.device plan.layout (key_events past) (key_event e))) [])
+    → AllFrom plan.device (cond t (key_list (key_args_of plan.device plan.layout (key_events past) (key_event e))) [])
 unfolding AllFrom
 from_keys plan past e true = from_key plan (key_events past) (key_event e) (changes (key_events past) (key_event e))
 from_keys plan past e false = tt

@@ -13,7 +13,7 @@ use Rattle.live_input.proofs.Noted.{same_at, steps_first}
 
 pub live_first : (ds : List ℕ) (s : LiveState) → StandsFor [] s.dispatcher → s.dispatcher.displays ≡ ds → s.windows ≡ []
     → s.requested ≡ replicate 4 None → s.asked ≡ 0 → s.seats ≡ replicate 64 vacant
-    → ((c : ℕ) → 1 ≤ c → gone s.dispatcher c ≡ 0) → anrs_released s.dispatcher ≡ 0 → s.named ≡ 0
+    → ((c : ℕ) → 1 ≤ c → gone s.dispatcher c ≡ 0) → anrs_released s.dispatcher ≡ 0 → s.reported ≡ 0
     → s.steps.made ≡ 0 → s.steps.channels ≡ replicate 64 no_step → LiveIs ds [] s
 live_first ds s stands displays windows requested asked seats gone anrs named made steps =
     record {
@@ -40,7 +40,7 @@ live_first ds s stands displays windows requested asked seats gone anrs named ma
             left = λ c low high is. absurd (omega (arith, low, high));
             begun = λ c held. absurd (none c held.2);
           };
-      named_are = λ c is. absurd (true≢false (sym is ∙ ap (λ n. mask_has n c) named ∙ mask_has-zero c));
+      reported_are = λ c is. absurd (true≢false (sym is ∙ ap (λ n. mask_has n c) named ∙ mask_has-zero c));
       release = record { messages_are = gone; anrs_are = anrs };
       steps_are = steps_first s.steps made steps;
     }

@@ -3,7 +3,7 @@ use Rattle.std.proofs.Common.{◌≡◌, ℕ, ◌||◌, Bool, true, false, cond,
 use Rattle.std.specs.Prelude.{nat_le, nat_lt, option_map}
 use Rattle.dispatch_calls.specs.declared.call.Call.{Call}
 use Rattle.dispatch_calls.specs.declared.call.Call.TheVariants.{Pump, Tick, Receive, Finish}
-use Rattle.dispatch_history.specs.Delivery.{is_named_by, oldest}
+use Rattle.dispatch_history.specs.Delivery.{is_reported_by, oldest}
 use Rattle.dispatch_history.specs.Effect.{Effect, past_of, stream}
 use Rattle.dispatch_history.specs.History.{received}
 use Rattle.dispatch_history.specs.KeySent.{repeat_due}
@@ -13,7 +13,7 @@ use Rattle.dispatch_history.specs.Reply.{reply_to}
 use Rattle.dispatcher.specs.Access.{is_waiting}
 use Rattle.window_snapshot.specs.Mask.{mask_has}
 use Rattle.live_input.specs.Advancing.{Advances, Advanced}
-use Rattle.live_input.specs.Settling.{Follows, Reaches, is_named_in, next_waiting, next_left, next_due, left_call, tick_by, repeat_by, sooner_call, timeout}
+use Rattle.live_input.specs.Settling.{Follows, Reaches, is_reported_in, next_waiting, next_left, next_due, left_call, tick_by, repeat_by, sooner_call, timeout}
 use Rattle.live_input.specs.declared.client.Seat.{Seat}
 use Rattle.live_input.specs.Seats.{IsHeld}
 use Rattle.live_input.specs.Standing.{IsMaskOfHeld, IsOfHeld, LiveIs, is_plain}
@@ -45,15 +45,15 @@ none_follows next ds es (c ∷ cs) call f none e = none≢some c (sym none ∙ f
 
 -- the channels that one more call reports
 pub named_last : (ds : List ℕ) (es : List Effect) (calls : List Call) (call : Call) (c : ℕ)
-    → is_named_in ds es (calls ++ call ∷ []) c ≡ (is_named_in ds es calls c || is_named_by call (reply_to (extend ds es calls) call) c)
-named_last ds es [] call c = or_false (is_named_by call (reply_to es call) c)
+    → is_reported_in ds es (calls ++ call ∷ []) c ≡ (is_reported_in ds es calls c || is_reported_by call (reply_to (extend ds es calls) call) c)
+named_last ds es [] call c = or_false (is_reported_by call (reply_to es call) c)
   where
     or_false : (b : Bool) → (b || false) ≡ b
     or_false true = refl
     or_false false = refl
 named_last ds es (k ∷ ks) call c =
-    ap (λ b. is_named_by k (reply_to es k) c || b) (named_last ds (answered ds k es) ks call c)
-    ∙ sym (or_more (is_named_by k (reply_to es k) c) (is_named_in ds (answered ds k es) ks c) (is_named_by call (reply_to (extend ds (answered ds k es) ks) call) c))
+    ap (λ b. is_reported_by k (reply_to es k) c || b) (named_last ds (answered ds k es) ks call c)
+    ∙ sym (or_more (is_reported_by k (reply_to es k) c) (is_reported_in ds (answered ds k es) ks c) (is_reported_by call (reply_to (extend ds (answered ds k es) ks) call) c))
   where
     or_more : (a b c : Bool) → ((a || b) || c) ≡ (a || (b || c))
     or_more true b c = refl
@@ -144,35 +144,35 @@ or_more false b c = refl
 
 -- other clients that are open are reported
 pub live_noted : (ds : List ℕ) (es : List Effect) (s : LiveState) (n : ℕ) → LiveIs ds es s → IsMaskOfHeld n s.seats
-    → LiveIs ds es (record s { named = n })
+    → LiveIs ds es (record s { reported = n })
 live_noted ds es s n h named =
-    record { stands = h.stands; displays_are = h.displays_are; windows_are = h.windows_are; requests_are = h.requests_are; seats_are = h.seats_are; tenants_are = h.tenants_are; named_are = named; release = h.release; steps_are = h.steps_are }
+    record { stands = h.stands; displays_are = h.displays_are; windows_are = h.windows_are; requests_are = h.requests_are; seats_are = h.seats_are; tenants_are = h.tenants_are; reported_are = named; release = h.release; steps_are = h.steps_are }
 
 -- nothing that is due has been done yet
 pub advances_first : (ds : List ℕ) (now : ℕ) (es : List Effect) (s : LiveState) → LiveIs ds es s → Advances ds now es s s
-advances_first ds now es s h = record { calls = []; follows = tt; is = h; named_are = λ c. or_none (mask_has s.named c) }
+advances_first ds now es s h = record { calls = []; follows = tt; is = h; reported_are = λ c. or_none (mask_has s.reported c) }
 
 -- one more call
 pub advances_more : (ds : List ℕ) (now : ℕ) (es : List Effect) (old s t : LiveState) (call : Call) → (a : Advances ds now es old s)
     → next_due now (extend ds es a.calls) ≡ Some call
     → LiveIs ds (answered ds call (extend ds es a.calls)) t
-    → ((c : ℕ) → mask_has t.named c ≡ (mask_has s.named c || is_named_by call (reply_to (extend ds es a.calls) call) c))
+    → ((c : ℕ) → mask_has t.reported c ≡ (mask_has s.reported c || is_reported_by call (reply_to (extend ds es a.calls) call) c))
     → Advances ds now es old t
 advances_more ds now es old s t call a e h n =
     record {
       calls = a.calls ++ call ∷ [];
       follows = follows_last (next_due now) ds es a.calls call a.follows e;
       is = subst (λ fs. LiveIs ds fs t) (sym (extend_last ds es a.calls call)) h;
-      named_are = λ c.
+      reported_are = λ c.
           n c
-          ∙ ap (λ b. b || is_named_by call (reply_to (extend ds es a.calls) call) c) (a.named_are c)
-          ∙ or_more (mask_has old.named c) (is_named_in ds es a.calls c) (is_named_by call (reply_to (extend ds es a.calls) call) c)
-          ∙ ap (λ b. mask_has old.named c || b) (sym (named_last ds es a.calls call c));
+          ∙ ap (λ b. b || is_reported_by call (reply_to (extend ds es a.calls) call) c) (a.reported_are c)
+          ∙ or_more (mask_has old.reported c) (is_reported_in ds es a.calls c) (is_reported_by call (reply_to (extend ds es a.calls) call) c)
+          ∙ ap (λ b. mask_has old.reported c || b) (sym (named_last ds es a.calls call c));
     }
 
 -- everything was done, and the reports are returned
 pub advanced : (ds : List ℕ) (now : ℕ) (es : List Effect) (old s t : LiveState) (mask : ℕ) → (a : Advances ds now es old s)
-    → next_due now (extend ds es a.calls) ≡ None → mask ≡ s.named → LiveIs ds (extend ds es a.calls) t → t.named ≡ 0
+    → next_due now (extend ds es a.calls) ≡ None → mask ≡ s.reported → LiveIs ds (extend ds es a.calls) t → t.reported ≡ 0
     → Advanced ds now es mask old t
 advanced ds now es old s t mask a e m h z =
     record {
@@ -180,6 +180,6 @@ advanced ds now es old s t mask a e m h z =
       follows = a.follows;
       done = e;
       is = h;
-      named_are = λ c. ap (λ n. mask_has n c) m ∙ a.named_are c;
+      reported_are = λ c. ap (λ n. mask_has n c) m ∙ a.reported_are c;
       outgoing = z;
     }

@@ -152,9 +152,9 @@ one_more k (l ∷ ls) = by_order (is_before k l) (one_more k ls)
     by_order true more = refl
     by_order false more = ap suc more
 
-given_few : (o : Option KeyArgs) (hears : Bool) (held : List KeyArgs) → length (key_given o hears held) ≤ length held + 1
+given_few : (o : Option KeyArgs) (gets : Bool) (held : List KeyArgs) → length (key_given o gets held) ≤ length held + 1
 given_few (Some k) true held = let n = one_more k held in omega (arith, n)
-given_few o hears held = omega arith
+given_few o gets held = omega arith
 
 -- a key that goes down or up is one message
 one_few : (b c d : Bool) (m : KeyMsg) → length (cond b (cond c (m ∷ []) []) (cond d (m ∷ []) [])) ≤ 1
@@ -164,21 +164,21 @@ one_few false c true m = omega arith
 one_few false c false m = omega arith
 
 -- What a window is sent for args, and the keys that it holds then, are at most two more than the keys that it held.
-args_modest : (args : Option Args) (hears loses : Bool) (held : List KeyArgs)
-    → length (keys_sent args hears loses held) + length (key_given (goes_down args) hears (cond loses [] (filter (λ k. not (ends args k)) held)))
+args_modest : (args : Option Args) (gets loses : Bool) (held : List KeyArgs)
+    → length (keys_sent args gets loses held) + length (key_given (goes_down args) gets (cond loses [] (filter (λ k. not (ends args k)) held)))
     ≤ length held + 2
-args_modest (Some (KeyArgsOf k)) hears loses held =
+args_modest (Some (KeyArgsOf k)) gets loses held =
     let args : Option Args = Some (KeyArgsOf k) in
     let left = cond loses [] (filter (λ l. not (ends args l)) held) in
-    let sent = one_few k.down hears (list_any (same_key k) held) (key_as_is k) in
-    let given = given_few (goes_down args) hears left in
+    let sent = one_few k.down gets (list_any (same_key k) held) (key_as_is k) in
+    let given = given_few (goes_down args) gets left in
     let kept = kept_few (λ l. not (ends args l)) loses held in
     omega (arith, sent, given, kept)
-args_modest args hears loses held = let all = cancelled_few (ends args) loses held in omega (arith, all)
+args_modest args gets loses held = let all = cancelled_few (ends args) loses held in omega (arith, all)
 
-none_modest : (hears loses : Bool) (held : List KeyArgs)
-    → length (keys_sent None hears loses held) + length (key_given None hears (cond loses [] (filter (λ k. not (ends None k)) held))) ≤ length held
-none_modest hears loses held = cancelled_few (ends None) loses held
+none_modest : (gets loses : Bool) (held : List KeyArgs)
+    → length (keys_sent None gets loses held) + length (key_given None gets (cond loses [] (filter (λ k. not (ends None k)) held))) ≤ length held
+none_modest gets loses held = cancelled_few (ends None) loses held
 
 repeat_few : (now : ℕ) (last : Option Sent) (w : ℕ) → length (repeat_sent (Pump now) Repeated last w) ≤ 1
 repeat_few now None w = omega arith
@@ -189,19 +189,19 @@ repeat_few now (Some s) w = by_channel (w == s.channel)
     by_channel false = omega arith
 
 -- The same for a call, which repeats a key only if it dispatches no args.
-keys_modest : (call : Call) (answer : Reply) (waiting : List Args) (last : Option Sent) (w : ℕ) (hears loses : Bool) (held : List KeyArgs)
-    → length (keys_sent (args_of call answer waiting) hears loses held ++ repeat_sent call answer last w)
-    + length (key_given (goes_down (args_of call answer waiting)) hears (cond loses [] (filter (λ k. not (ends (args_of call answer waiting) k)) held)))
+keys_modest : (call : Call) (answer : Reply) (waiting : List Args) (last : Option Sent) (w : ℕ) (gets loses : Bool) (held : List KeyArgs)
+    → length (keys_sent (args_of call answer waiting) gets loses held ++ repeat_sent call answer last w)
+    + length (key_given (goes_down (args_of call answer waiting)) gets (cond loses [] (filter (λ k. not (ends (args_of call answer waiting) k)) held)))
     ≤ length held + 2
-keys_modest (Pump now) Repeated waiting last w hears loses held =
-    let both = length-append (keys_sent None hears loses held) (repeat_sent (Pump now) Repeated last w) in
-    let none = none_modest hears loses held in
+keys_modest (Pump now) Repeated waiting last w gets loses held =
+    let both = length-append (keys_sent None gets loses held) (repeat_sent (Pump now) Repeated last w) in
+    let none = none_modest gets loses held in
     let one = repeat_few now last w in
     omega (arith, both, none, one)
-keys_modest call answer waiting last w hears loses held =
+keys_modest call answer waiting last w gets loses held =
     let none : List KeyMsg = [] in
-    let both = length-append (keys_sent (args_of call answer waiting) hears loses held) none in
-    let all = args_modest (args_of call answer waiting) hears loses held in
+    let both = length-append (keys_sent (args_of call answer waiting) gets loses held) none in
+    let all = args_modest (args_of call answer waiting) gets loses held in
     omega (arith, both, all)
 
 focus_few : (before later : Bool) → length (focus_sent before later) ≤ 1

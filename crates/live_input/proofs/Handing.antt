@@ -22,7 +22,7 @@ use Rattle.live_input.specs.Answers.{Finishes, Makes, is_done, is_taken}
 use Rattle.live_input.specs.declared.client.Client.{Client}
 use Rattle.live_input.specs.Closing.{forgotten, hidden}
 use Rattle.live_input.specs.Opening.{Closes}
-use Rattle.live_input.specs.Settling.{Settles, is_named_in, next_left}
+use Rattle.live_input.specs.Settling.{Settles, is_reported_in, next_left}
 use Rattle.live_input.specs.Giving.{HandedInPart, Delivers, Gives, all_taken, notified}
 use Rattle.live_input.specs.Standing.{LiveIs}
 use Rattle.live_input.specs.State.{LiveState}
@@ -67,7 +67,7 @@ beside_goes ds es s h devices pending clock =
       requests_are = h.requests_are;
       seats_are = h.seats_are;
       tenants_are = h.tenants_are;
-      named_are = h.named_are;
+      reported_are = h.reported_are;
       release = h.release;
       steps_are = h.steps_are;
     }
@@ -140,16 +140,16 @@ not_there true e f = absurd (true≢false f)
 not_there false e f = absurd (true≢false e)
 
 -- what is due, from a state in which the same channels were reported
-pub advances_from : (ds : List ℕ) (now : ℕ) (es : List Effect) (s t new : LiveState) → s.named ≡ t.named → Advances ds now es s new → Advances ds now es t new
+pub advances_from : (ds : List ℕ) (now : ℕ) (es : List Effect) (s t new : LiveState) → s.reported ≡ t.reported → Advances ds now es s new → Advances ds now es t new
 advances_from ds now es s t new e a =
     record {
       calls = a.calls;
       follows = a.follows;
       is = a.is;
-      named_are = λ c. a.named_are c ∙ ap (λ n. mask_has n c || is_named_in ds es a.calls c) e;
+      reported_are = λ c. a.reported_are c ∙ ap (λ n. mask_has n c || is_reported_in ds es a.calls c) e;
     }
 
-pub advanced_from : (ds : List ℕ) (now : ℕ) (es : List Effect) (mask : ℕ) (s t new : LiveState) → s.named ≡ t.named
+pub advanced_from : (ds : List ℕ) (now : ℕ) (es : List Effect) (mask : ℕ) (s t new : LiveState) → s.reported ≡ t.reported
     → Advanced ds now es mask s new → Advanced ds now es mask t new
 advanced_from ds now es mask s t new e a =
     record {
@@ -157,7 +157,7 @@ advanced_from ds now es mask s t new e a =
       follows = a.follows;
       done = a.done;
       is = a.is;
-      named_are = λ c. a.named_are c ∙ ap (λ n. mask_has n c || is_named_in ds es a.calls c) e;
+      reported_are = λ c. a.reported_are c ∙ ap (λ n. mask_has n c || is_reported_in ds es a.calls c) e;
       outgoing = a.outgoing;
     }
 

@@ -100,12 +100,12 @@ holders_of a b x = record { seats_are = x.seats_are; opened_is = x.opened_is; te
 
 pub eases_report : (ds : List ℕ) (now n : ℕ) (es : List Effect) (old eased : Limited) → EasesPart ds now n es old eased → ReportsChoked old eased
 eases_report ds now n es old eased x = λ c.
-    ap (λ m. mask_has m c) x.rest.named_is
-    ∙ x.chokes.named_are c
-    ∙ ap (λ m. mask_has old.live.named c || (mask_has m c && not (mask_has old.wanted.choked c))) (sym (ap (λ (w : Wanted). w.choked) x.wanted_is))
+    ap (λ m. mask_has m c) x.rest.reported_is
+    ∙ x.chokes.reported_are c
+    ∙ ap (λ m. mask_has old.live.reported c || (mask_has m c && not (mask_has old.wanted.choked c))) (sym (ap (λ (w : Wanted). w.choked) x.wanted_is))
 
 pub none_report : (s : Limited) → ReportsChoked s s
-none_report s c = by_test (mask_has s.live.named c) (mask_has s.wanted.choked c)
+none_report s c = by_test (mask_has s.live.reported c) (mask_has s.wanted.choked c)
   where
     by_test : (a b : Bool) → a ≡ (a || (b && not b))
     by_test true b = refl
@@ -113,12 +113,12 @@ none_report s c = by_test (mask_has s.live.named c) (mask_has s.wanted.choked c)
     by_test false false = refl
 
 -- a call that reports nobody, and leaves who is choked
-pub reports_after : (old eased new : Limited) → ReportsChoked old eased → new.live.named ≡ eased.live.named
+pub reports_after : (old eased new : Limited) → ReportsChoked old eased → new.live.reported ≡ eased.live.reported
     → new.wanted.choked ≡ eased.wanted.choked → ReportsChoked old new
 reports_after old eased new r named choked = λ c.
     ap (λ m. mask_has m c) named
     ∙ r c
-    ∙ ap (λ m. mask_has old.live.named c || (mask_has m c && not (mask_has old.wanted.choked c))) (sym choked)
+    ∙ ap (λ m. mask_has old.live.reported c || (mask_has m c && not (mask_has old.wanted.choked c))) (sym choked)
 
 -- ---- easing hands in nothing
 

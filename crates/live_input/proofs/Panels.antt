@@ -154,7 +154,7 @@ fingers_go ds es s h clock fingers =
       requests_are = h.requests_are;
       seats_are = h.seats_are;
       tenants_are = h.tenants_are;
-      named_are = h.named_are;
+      reported_are = h.reported_are;
       release = h.release;
       steps_are = h.steps_are;
     }

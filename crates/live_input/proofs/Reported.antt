@@ -7,7 +7,7 @@ use Rattle.window_snapshot.specs.Mask.{is_channel, mask_has}
 use Rattle.window_snapshot.proofs.Masks.{mask_has-zero, mask_has_channel}
 use Rattle.dispatch_calls.specs.declared.call.Call.{Call}
 use Rattle.dispatch_calls.specs.declared.call.Call.TheVariants.{Tick}
-use Rattle.dispatch_history.specs.Delivery.{able, is_named_by, oldest, unfinished, unresponsive}
+use Rattle.dispatch_history.specs.Delivery.{able, is_reported_by, oldest, unfinished, unresponsive}
 use Rattle.dispatch_history.specs.Due.{is_late_at, mask_of, named}
 use Rattle.dispatch_history.specs.Effect.{Effect, past_of}
 use Rattle.dispatch_history.specs.History.{clock, live, opened}
@@ -49,7 +49,7 @@ named_less seats c before mask less from h without = λ d is.
     ]
 
 -- a channel that a call reports is able, and has a late message
-pub tick_able : (ds : List ℕ) (es : List Effect) → Lawful ds es → (call : Call) (c : ℕ) → is_named_by call (reply_to es call) c ≡ true
+pub tick_able : (ds : List ℕ) (es : List Effect) → Lawful ds es → (call : Call) (c : ℕ) → is_reported_by call (reply_to es call) c ≡ true
     → (now : ℕ) × (is_channel c ≡ true) × (able es c ≡ true) × (is_late_at es c now (oldest es c) ≡ true)
 tick_able ds es l (Tick now) c is =
     let at = max now (clock (past_of es)) in
@@ -57,7 +57,7 @@ tick_able ds es l (Tick now) c is =
     (at, mask_has_channel (mask_of (named es now)) c is, both.0, both.1)
 tick_able ds es l call c is = absurd (true≢false (sym is))
 
-pub tick_mask : (ds : List ℕ) (es : List Effect) → Lawful ds es → (call : Call) (c : ℕ) → is_named_by call (reply_to es call) c ≡ true
+pub tick_mask : (ds : List ℕ) (es : List Effect) → Lawful ds es → (call : Call) (c : ℕ) → is_reported_by call (reply_to es call) c ≡ true
     → oldest es c ≡ None → ⊥
 tick_mask ds es l call c is none =
     let x = tick_able ds es l call c is in
@@ -84,15 +84,15 @@ module _ (ds : List ℕ) (es : List Effect) (s : LiveState) (h : LiveIs ds es s)
       ]
 
   -- a call reports only clients that are open
-  named_held : (call : Call) (c : ℕ) → is_named_by call (reply_to es call) c ≡ true → IsHeld c s.seats
+  named_held : (call : Call) (c : ℕ) → is_reported_by call (reply_to es call) c ≡ true → IsHeld c s.seats
   named_held call c is =
       let x = tick_able ds es (live_lawful ds es s h) call c is in
       late_held x.0 c x.1 x.2 x.3
 
   pub named_more : (call : Call) (mask : ℕ)
-      → ((c : ℕ) → mask_has mask c ≡ (mask_has s.named c || is_named_by call (reply_to es call) c)) → IsMaskOfHeld mask s.seats
-  named_more call mask e = λ c is. by_either c (mask_has s.named c) refl (sym (e c) ∙ is)
+      → ((c : ℕ) → mask_has mask c ≡ (mask_has s.reported c || is_reported_by call (reply_to es call) c)) → IsMaskOfHeld mask s.seats
+  named_more call mask e = λ c is. by_either c (mask_has s.reported c) refl (sym (e c) ∙ is)
     where
-      by_either : (c : ℕ) (b : Bool) → mask_has s.named c ≡ b → (b || is_named_by call (reply_to es call) c) ≡ true → IsHeld c s.seats
-      by_either c true was either = h.named_are c was
+      by_either : (c : ℕ) (b : Bool) → mask_has s.reported c ≡ b → (b || is_reported_by call (reply_to es call) c) ≡ true → IsHeld c s.seats
+      by_either c true was either = h.reported_are c was
       by_either c false was either = named_held call c either

@@ -200,7 +200,7 @@ live_roomy ds es s n d h same stands =
           requests_are = h.requests_are;
           seats_are = h.seats_are;
           tenants_are = h.tenants_are;
-          named_are = h.named_are;
+          reported_are = h.reported_are;
           release = record { messages_are = h.release.messages_are; anrs_are = h.release.anrs_are };
           steps_are = h.steps_are;
         }

@@ -139,7 +139,7 @@ sent_nothing ds call answer es w l was is =
     let keys_none : keys_said h o es w ≡ [] =
     ap (map Key)
     (ap₂ (λ a b. a ++ b)
-    (ap₂ (λ hears ks. keys_sent o (hears && able es w) (loses_all h (past_of es) w) ks) target none
+    (ap₂ (λ gets ks. keys_sent o (gets && able es w) (loses_all h (past_of es) w) ks) target none
     ∙ none_sent o (loses_all h (past_of es) w))
     (none_repeated es (last_key es) w call answer refl none before.0)) in
     let focus_none : focus_sent (has_focus (past_of es) w) (has_focus h w) ≡ [] =

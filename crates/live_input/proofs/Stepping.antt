@@ -110,7 +110,7 @@ module _ (ds : List ℕ) (es : List Effect) (s : LiveState) (h : LiveIs ds es s)
             (λ y low. subst (λ o. IsOfSome o s.seats) (sym (plain_requested call y (requested h0 y) plain)) (h.tenants_are.asked y low))
             (λ c low high none. part_none s.seats call r c own none (λ terms k e f. absurd (true≢false (sym plain ∙ ap is_plain e))))
             (λ c lt le silent. let same_count = plain_opened call r (opened h0) plain in absurd (omega (arith, lt, le, same_count)));
-        named_are = h.named_are;
+        reported_are = h.reported_are;
         release = release;
         steps_are = steps;
       }
@@ -133,7 +133,7 @@ module _ (ds : List ℕ) (es : List Effect) (s : LiveState) (h : LiveIs ds es s)
         tenants_are =
             tenants_more ds (Windows now ws) r es s.seats (lawful_of there) h.tenants_are own h.tenants_are.asked (λ c low high none. refl)
             (λ c lt le silent. absurd (omega (arith, lt, le)));
-        named_are = h.named_are;
+        reported_are = h.reported_are;
         release = release;
         steps_are = steps;
       }
@@ -165,7 +165,7 @@ module _ (ds : List ℕ) (es : List Effect) (s : LiveState) (h : LiveIs ds es s)
             (λ z zt. of_some s.seats (z == y) channel (requested h0 z) own (h.tenants_are.asked z zt))
             (λ c from high none. refl)
             (λ c lt le silent. absurd (omega (arith, lt, le)));
-        named_are = h.named_are;
+        reported_are = h.reported_are;
         release = release;
         steps_are = steps;
       }
@@ -242,7 +242,7 @@ module _ (ds : List ℕ) (es : List Effect) (s : LiveState) (h : LiveIs ds es s)
               h.tenants_are.asked
               (λ c low high none. ap (λ b. cond b (Opens terms) Untouched) (ne_eqb c (opened (past_of es) + 1) (λ e. absurd (omega (arith, high, e)))))
               (λ c lt le silent. done_new ds terms (opened (past_of es) + 1) es c (lawful_of stands) silent lt);
-          named_are = h.named_are;
+          reported_are = h.reported_are;
           release = release;
           steps_are = steps;
         },
@@ -251,7 +251,7 @@ module _ (ds : List ℕ) (es : List Effect) (s : LiveState) (h : LiveIs ds es s)
 -- the seat of a channel that was opened is changed
 pub seat_goes : (ds : List ℕ) (es : List Effect) (s : LiveState) → LiveIs ds es s → (c : ℕ) (seat : Seat) → 1 ≤ c → c ≤ 64
     → c ≤ opened (past_of es) → AreTenants es (with_seat c seat s.seats) → (n : ℕ) (seats : List Seat) → seats ≡ with_seat c seat s.seats
-    → (mask : ℕ) → IsMaskOfHeld mask (with_seat c seat s.seats) → LiveIs ds es (record s { seats = seats; opened = n; named = mask })
+    → (mask : ℕ) → IsMaskOfHeld mask (with_seat c seat s.seats) → LiveIs ds es (record s { seats = seats; opened = n; reported = mask })
 seat_goes ds es s h c seat from to high tenants n seats same mask named =
     record {
       stands = h.stands;
@@ -260,7 +260,7 @@ seat_goes ds es s h c seat from to high tenants n seats same mask named =
       requests_are = h.requests_are;
       seats_are = subst (AreSeated (past_of es)) (sym same) (seated (past_of es) s.seats c seat h.seats_are from to high);
       tenants_are = subst (AreTenants es) (sym same) tenants;
-      named_are = subst (IsMaskOfHeld mask) (sym same) named;
+      reported_are = subst (IsMaskOfHeld mask) (sym same) named;
       release = h.release;
       steps_are = h.steps_are;
     }

@@ -29,7 +29,7 @@ use Rattle.dispatcher.proofs.DispatchTables.Unopened.{unopened_law}
 use Rattle.live_input.specs.declared.client.Seat.{Seat}
 use Rattle.live_input.specs.declared.options.Options.{Options}
 use Rattle.live_input.specs.Seats.{IsHeld, is_held, left_vacant, seat_of, taken_by, with_seat}
-use Rattle.live_input.specs.Standing.{AreSeated, AreTenants, Begins, IsDone, IsOfHeld, IsOfSome}
+use Rattle.live_input.specs.Standing.{AreSeated, AreTenants, BelongsSince, IsDone, IsOfHeld, IsOfSome}
 use Rattle.live_input.proofs.Silence.{sent_nothing}
 use Rattle.live_input.proofs.Unsent.{unsent_law}
 use Rattle.live_input.proofs.Vacant.{seat_set, seat_stays}
@@ -51,7 +51,7 @@ received_more (Receive k) (Got m) c n = by_channel (c == k)
 received_more call answer c n = omega arith
 
 -- what a client is sent later stands in front of what its channel had
-pub begins_more : (ds : List ℕ) (call : Call) (answer : Reply) (es : List Effect) (c n : ℕ) → Begins es c n → Begins (step ds call answer es) c n
+pub begins_more : (ds : List ℕ) (call : Call) (answer : Reply) (es : List Effect) (c n : ℕ) → BelongsSince es c n → BelongsSince (step ds call answer es) c n
 begins_more ds call answer es c n b =
     let more = sent_more (clock ((call, answer) ∷ past_of es)) (sent_to (sent_by (said_at ds call answer es) (opened ((call, answer) ∷ past_of es))) c) (stream es c) in
     let grown = received_more call answer c (received (past_of es) c) in
@@ -170,7 +170,7 @@ tenants_less es seats c before all from to t hidden unasked done =
       begun = λ d held. elim (cases_eq d c) [
         | inl e ↦ absurd (true≢false (sym held.2 ∙ ap (λ n. is_held (seat_of (with_seat c seat seats) n)) e ∙ ap is_held (seat_set seats c seat all from to)))
         | inr ne ↦
-            subst (λ s. Begins es d s.before) (sym (seat_stays seats c d seat from held.0 ne))
+            subst (λ s. BelongsSince es d s.before) (sym (seat_stays seats c d seat from held.0 ne))
             (t.begun d (held.0, held.1, ap is_held (sym (seat_stays seats c d seat from held.0 ne)) ∙ held.2))
       ];
     }
@@ -202,10 +202,10 @@ tenants_new ds es seats c generation options l r a t from to high none =
       ];
       begun = λ d held. elim (cases_eq d c) [
         | inl e ↦
-            subst (λ n. Begins es n (seat_of (with_seat c seat seats) n).before) (sym e)
-            (subst (λ s. Begins es c s.before) (sym (seat_set seats c seat a.all from to)) begins)
+            subst (λ n. BelongsSince es n (seat_of (with_seat c seat seats) n).before) (sym e)
+            (subst (λ s. BelongsSince es c s.before) (sym (seat_set seats c seat a.all from to)) begins)
         | inr ne ↦
-            subst (λ s. Begins es d s.before) (sym (seat_stays seats c d seat from held.0 ne))
+            subst (λ s. BelongsSince es d s.before) (sym (seat_stays seats c d seat from held.0 ne))
             (t.begun d (held.0, held.1, ap is_held (sym (seat_stays seats c d seat from held.0 ne)) ∙ held.2))
       ];
     }
@@ -223,7 +223,7 @@ tenants_new ds es seats c generation options l r a t from to high none =
     asks None h = tt
     asks (Some d) h = stays d h
 
-    begins : Begins es c (length (stream es c))
+    begins : BelongsSince es c (length (stream es c))
     begins =
         let all = (t.left c from high none).received_all in
         record {

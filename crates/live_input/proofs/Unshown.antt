@@ -15,7 +15,7 @@ use Rattle.routing_rules.specs.Pairs.{has}
 use Rattle.dispatch_calls.specs.declared.call.Call.{Call}
 use Rattle.dispatch_calls.specs.declared.call.Call.TheVariants.{Open, Windows, FocusOn, Notify, Pump, Tick, Receive, Finish, Pilfer, Remove}
 use Rattle.dispatch_calls.specs.declared.reply.Reply.{Reply}
-use Rattle.dispatch_history.specs.Delivery.{able, names}
+use Rattle.dispatch_history.specs.Delivery.{able, reports}
 use Rattle.dispatch_history.specs.Effect.{Effect, past_of}
 use Rattle.dispatch_history.specs.Effects.{step}
 use Rattle.dispatch_history.specs.Focus.{requested, asked, may_focus, focus, has_focus, is_target}
@@ -100,7 +100,7 @@ was_none : (ds : List ℕ) (w : ℕ) (call : Call) (answer : Reply) (es : List E
 was_none ds w call answer es t k =
     let o = args_of call answer (inbound (past_of es)) in
     let b = loses_all ((call, answer) ∷ past_of es) (past_of es) w in
-    ap₂ (λ hears old. key_given (goes_down o) (hears && able es w) (cond b [] (filter (λ k. not (ends o k)) old))) t k
+    ap₂ (λ gets old. key_given (goes_down o) (gets && able es w) (cond b [] (filter (λ k. not (ends o k)) old))) t k
     ∙ none_given (goes_down o) (cond b [] (filter (λ k. not (ends o k)) []))
     ∙ none_left b o
 
@@ -109,7 +109,7 @@ loses_them : (ds : List ℕ) (w : ℕ) (call : Call) (answer : Reply) (es : List
     → is_target (past_of es) w ≡ true → is_target ((call, answer) ∷ past_of es) w ≡ false → keys (step ds call answer es) w ≡ []
 loses_them ds w call answer es none was not_now =
     let after : History = (call, answer) ∷ past_of es in
-    let lost : loses_all after (past_of es) w ≡ true = ap₂ (λ a b. a && not b || names after w || not (live after w)) was not_now in
+    let lost : loses_all after (past_of es) w ≡ true = ap₂ (λ a b. a && not b || reports after w || not (live after w)) was not_now in
     ap₂ (λ o b. key_given (goes_down o) (is_target (past_of es) w && able es w) (cond b [] (filter (λ k. not (ends o k)) (keys es w)))) none lost
 
 keys_step : (ds : List ℕ) (w : ℕ) (call : Call) (answer : Reply) (es : List Effect) → HoldsNone w es

@@ -4,7 +4,7 @@ use Rattle.window_snapshot.specs.Mask.{mask_has}
 use Rattle.dispatch_calls.specs.declared.call.Call.{Call}
 use Rattle.dispatch_history.specs.Effect.{Effect}
 use Rattle.dispatch_history.specs.Ordered.{extend}
-use Rattle.live_input.specs.Settling.{Follows, next_due, is_named_in}
+use Rattle.live_input.specs.Settling.{Follows, next_due, is_reported_in}
 use Rattle.live_input.specs.Standing.{LiveIs}
 use Rattle.live_input.specs.State.{LiveState}
 
@@ -13,7 +13,7 @@ pub record Advances (displays : List ℕ) (now : ℕ) (es : List Effect) (old ne
   pub calls : List Call
   pub follows : Follows (next_due now) displays es calls
   pub is : LiveIs displays (extend displays es calls) new
-  pub named_are : (c : ℕ) → mask_has new.named c ≡ (mask_has old.named c || is_named_in displays es calls c)
+  pub reported_are : (c : ℕ) → mask_has new.reported c ≡ (mask_has old.reported c || is_reported_in displays es calls c)
 
 -- All of it was done, and the mask contains exactly the channels that were reported by it, or before it without being
 -- returned.
@@ -22,5 +22,5 @@ pub record Advanced (displays : List ℕ) (now : ℕ) (es : List Effect) (mask :
   pub follows : Follows (next_due now) displays es calls
   pub done : next_due now (extend displays es calls) ≡ None
   pub is : LiveIs displays (extend displays es calls) new
-  pub named_are : (c : ℕ) → mask_has mask c ≡ (mask_has old.named c || is_named_in displays es calls c)
-  pub outgoing : new.named ≡ 0
+  pub reported_are : (c : ℕ) → mask_has mask c ≡ (mask_has old.reported c || is_reported_in displays es calls c)
+  pub outgoing : new.reported ≡ 0

@@ -58,7 +58,7 @@ pub record SameRest (old new : LiveState) : Type 0 where
   pub devices_are : new.devices ≡ old.devices
   pub pending_is : new.pending ≡ old.pending
   pub fingers_are : new.fingers ≡ old.fingers
-  pub named_is : new.named ≡ old.named
+  pub reported_is : new.reported ≡ old.reported
   pub clock_is : new.clock ≡ old.clock
 
 -- The clients are the same, and so are the terms and the single fingers of panels.

@@ -15,11 +15,11 @@ use Rattle.live_input.specs.State.{LiveState}
 pub record Chokes (es : List Effect) (old new : Limited) : Type 0 where
   pub choked_are :
       (c : ℕ) → mask_has new.wanted.choked c ≡ is_choked old.wanted.most old.wanted.choked old.live.seats es c
-  pub named_are :
-      (c : ℕ) → mask_has new.live.named c
-      ≡ (mask_has old.live.named c || (mask_has new.wanted.choked c && not (mask_has old.wanted.choked c)))
+  pub reported_are :
+      (c : ℕ) → mask_has new.live.reported c
+      ≡ (mask_has old.live.reported c || (mask_has new.wanted.choked c && not (mask_has old.wanted.choked c)))
   pub shown_is : new.wanted.is_shown ≡ (old.wanted.is_shown && (new.wanted.choked == old.wanted.choked))
-  pub live_is : new.live ≡ record old.live { named = new.live.named }
+  pub live_is : new.live ≡ record old.live { reported = new.live.reported }
   pub wanted_is : new.wanted ≡ record old.wanted { choked = new.wanted.choked; is_shown = new.wanted.is_shown }
 
 -- the same at this moment, which is then the clock
@@ -27,8 +27,8 @@ abbrev pub at_clock : (now : ℕ) → Limited → Limited
 at_clock now s = record s { live = record s.live { clock = now } }
 
 -- what was reported and not returned stays so
-abbrev pub KeepsNamed : (old new : ℕ) → Type 0
-KeepsNamed old new = (c : ℕ) → mask_has old c ≡ true → mask_has new c ≡ true
+abbrev pub KeepsReported : (old new : ℕ) → Type 0
+KeepsReported old new = (c : ℕ) → mask_has old c ≡ true → mask_has new c ≡ true
 
 -- Nothing is to be eased: no client is to be choked or released, and the history agrees with what is wanted.
 pub record IsCalm (es : List Effect) (s : Limited) : Type 0 where

@@ -35,8 +35,8 @@ EasedAlone displays now es old new = (n : ℕ) × EasesPart displays now n es ol
 -- Reported and not yet returned are those that were so before, and the clients that became choked.
 abbrev pub ReportsChoked : (old new : Limited) → Type 0
 ReportsChoked old new =
-    (c : ℕ) → mask_has new.live.named c
-    ≡ (mask_has old.live.named c || (mask_has new.wanted.choked c && not (mask_has old.wanted.choked c)))
+    (c : ℕ) → mask_has new.live.reported c
+    ≡ (mask_has old.live.reported c || (mask_has new.wanted.choked c && not (mask_has old.wanted.choked c)))
 
 -- The windows are shown from where the service was eased, with walls in place of those of choked clients, and are then
 -- what is asked for.

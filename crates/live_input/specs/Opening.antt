@@ -35,15 +35,15 @@ pub record OpensWith (options : Options) (client : Client) (old new : LiveState)
   pub seats_are :
       new.seats ≡ with_seat client.channel (taken_by client.generation before options) old.seats
   pub terms_are : new.terms ≡ old.terms
-  pub named_is : new.named ≡ old.named
+  pub reported_is : new.reported ≡ old.reported
   pub clock_is : new.clock ≡ old.clock
   pub devices_are : new.devices ≡ old.devices
   pub pending_is : new.pending ≡ old.pending
   pub fingers_are : new.fingers ≡ old.fingers
 
 -- a client is opened without more being said
-abbrev pub Opens : Client → (old new : LiveState) → Type 0
-Opens client old new = OpensWith no_options client old new
+abbrev pub OpensClient : Client → (old new : LiveState) → Type 0
+OpensClient client old new = OpensWith no_options client old new
 
 -- a channel was opened, or is the first one that was not
 pub record IsNext (c : ℕ) (es : List Effect) : Type 0 where
@@ -68,7 +68,7 @@ pub record Closes (client : Client) (old new : LiveState) : Type 0 where
   pub devices_are : new.devices ≡ old.devices
   pub pending_is : new.pending ≡ old.pending
   pub fingers_are : new.fingers ≡ old.fingers
-  pub named_are : (c : ℕ) → mask_has new.named c ≡ (not (c == client.channel) && mask_has old.named c)
+  pub reported_are : (c : ℕ) → mask_has new.reported c ≡ (not (c == client.channel) && mask_has old.reported c)
 
 -- An open client is closed at this moment, which is then the clock: its window is hidden, its requests are withdrawn, and everything left for it is received
 -- and finished. If memory runs out, it is still open, and some of that is done: each further call takes something away

@@ -2,7 +2,7 @@
 use Rattle.std.specs.Prelude.{ℕ, ◌≡◌, ◌||◌, Bool, false, nat_le, nat_lt, min, List, [], ◌∷◌, length, Option, Some, None, option_map, if◌then◌else◌}
 use Rattle.dispatch_calls.specs.declared.call.Call.{Call}
 use Rattle.dispatch_calls.specs.declared.call.Call.TheVariants.{Pump, Tick, Receive, Finish}
-use Rattle.dispatch_history.specs.Delivery.{is_named_by, oldest}
+use Rattle.dispatch_history.specs.Delivery.{is_reported_by, oldest}
 use Rattle.dispatch_history.specs.Due.{first_due}
 use Rattle.dispatch_history.specs.Effect.{Effect, past_of, stream}
 use Rattle.dispatch_history.specs.History.{received}
@@ -86,7 +86,7 @@ abbrev pub next_due : (now : ℕ) → List Effect → Option Call
 next_due now es = if is_waiting es then Some (Pump now) else sooner_call now (timeout es) (repeat_due es)
 
 -- one of these calls reports a channel unresponsive
-abbrev pub is_named_in : List ℕ → List Effect → List Call → ℕ → Bool
-is_named_in displays es [] c = false
-is_named_in displays es (call ∷ calls) c =
-    is_named_by call (reply_to es call) c || is_named_in displays (answered displays call es) calls c
+abbrev pub is_reported_in : List ℕ → List Effect → List Call → ℕ → Bool
+is_reported_in displays es [] c = false
+is_reported_in displays es (call ∷ calls) c =
+    is_reported_by call (reply_to es call) c || is_reported_in displays (answered displays call es) calls c

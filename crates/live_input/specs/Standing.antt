@@ -38,7 +38,7 @@ pub record IsDone (es : List Effect) (c : ℕ) : Type 0 where
   pub finished_all : unfinished es c ≡ []
 
 -- A channel has belonged to a client since it had this many messages: these leave nothing known, and were received.
-pub record Begins (es : List Effect) (c before : ℕ) : Type 0 where
+pub record BelongsSince (es : List Effect) (c before : ℕ) : Type 0 where
   pub newer : List Message
   pub older : List Message
   pub stream_is : stream es c ≡ newer ++ older
@@ -65,7 +65,7 @@ pub record AreTenants (es : List Effect) (seats : List Seat) : Type 0 where
   pub shown : AreOfHeld (snapshot (past_of es)) seats
   pub asked : (y : ℕ) → y < 4 → IsOfSome (requested (past_of es) y) seats
   pub left : (c : ℕ) → 1 ≤ c → c ≤ opened (past_of es) → is_held (seat_of seats c) ≡ false → IsDone es c
-  pub begun : (c : ℕ) → IsHeld c seats → Begins es c (seat_of seats c).before
+  pub begun : (c : ℕ) → IsHeld c seats → BelongsSince es c (seat_of seats c).before
 
 -- exactly the received messages of each channel are released, and so are all ANRs
 pub record AreReleased (es : List Effect) (d : Dispatching) : Type 0 where
@@ -81,7 +81,7 @@ pub record LiveIs (displays : List ℕ) (es : List Effect) (s : LiveState) : Typ
   pub requests_are : AreRequested (past_of es) s.requested s.asked
   pub seats_are : AreSeated (past_of es) s.seats
   pub tenants_are : AreTenants es s.seats
-  pub named_are : IsMaskOfHeld s.named s.seats
+  pub reported_are : IsMaskOfHeld s.reported s.seats
   pub release : AreReleased es s.dispatcher
   pub steps_are : StepsAre es s.steps
 

@@ -24,7 +24,7 @@ pub record LiveState : Type 0 where
   pub windows : List Window
   pub requested : List (Option ℕ)
   pub asked : ℕ
-  pub named : ℕ
+  pub reported : ℕ
   pub devices : List (Option Reading)
   pub pending : List Args
   pub steps : Steps

@@ -68,9 +68,9 @@ impl Live {
 
     /// Keeps the channels of a mask as reported.
     pub(crate) fn report(&mut self, mask: u64)
-        ensures { self.new ≡ record self.old { named = bit_or self.old.named mask } }
+        ensures { self.new ≡ record self.old { reported = bit_or self.old.reported mask } }
     {
-        self.named |= mask;
+        self.reported |= mask;
     }
 }
 

@@ -10,7 +10,7 @@ ghost use Rattle.dispatcher.specs.Dispatching.{IsAfter};
 ghost use Rattle.window_snapshot.specs.Mask.{is_channel};
 ghost use Rattle.window_snapshot.specs.Named.{is_named};
 ghost use Rattle.live_input.specs.Seats.{IsHeld, is_open, is_held, is_full, client_at, first_vacant, user_data_of};
-ghost use Rattle.live_input.specs.Opening.{Opens, OpensWith, OpensOn, CloseGoes, IsNext, opening};
+ghost use Rattle.live_input.specs.Opening.{OpensClient, OpensWith, OpensOn, CloseGoes, IsNext, opening};
 ghost use Rattle.live_input.specs.Answers.{SameRest};
 ghost use Rattle.live_input.specs.Closing.{hidden, forgotten};
 ghost use Rattle.live_input.specs.Settling.{Settles, next_left};
@@ -64,7 +64,7 @@ impl Live {
     /// had its generation.
     pub fn open(&mut self) -> Result<Client, OpenRefused>
         ensures full { (result ≡ Err OpenRefused.Full) ↔ (is_full self.old.seats ≡ true) }
-        ensures seat { IfOk result (λ client. Opens client self.old self.new) }
+        ensures seat { IfOk result (λ client. OpensClient client self.old self.new) }
         ensures after { (ds : List ℕ) (es : List Effect) → LiveIs ds es self.old → IfOk result
             (λ client. OpensOn ds es client self.old self.new) }
         ensures err { OnErr result (self.new ≡ self.old) }
@@ -134,7 +134,7 @@ impl Live {
             → (result ≡ Err CloseRefused.NotOpen) × (self.new ≡ self.old) }
         ensures after { (ds : List ℕ) (es : List Effect) → LiveIs ds es self.old → is_open self.old.seats client ≡ true
             → CloseGoes ds (latest now self.old) client es result self.old self.new }
-        ensures named { OnErr result (self.new.named ≡ self.old.named) }
+        ensures named { OnErr result (self.new.reported ≡ self.old.reported) }
     {
         if !is_open(&self.seats, client) {
             return Err(CloseRefused::NotOpen);
@@ -144,7 +144,7 @@ impl Live {
         match self.empty(now, channel) {
             Ok(()) => {
                 vacate(&mut self.seats, channel);
-                self.named = mask_without(self.named, channel);
+                self.reported = mask_without(self.reported, channel);
                 Ok(())
             }
             Err(_) => Err(CloseRefused::Memory),

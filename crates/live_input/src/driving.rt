@@ -1,7 +1,7 @@
 //! Waiting args, and what is due.
 ghost use Rattle.std.specs.Prelude.{◌≡◌, ◌⊎◌, ℕ, ◌≤◌, ◌||◌, true, List, [], length, Option, None, IfOk, IsOk, OnOk, OnErr};
 ghost use Rattle.dispatch_calls.specs.declared.call.Call.TheVariants.{Tick};
-ghost use Rattle.dispatch_history.specs.Delivery.{is_named_by};
+ghost use Rattle.dispatch_history.specs.Delivery.{is_reported_by};
 ghost use Rattle.dispatch_history.specs.Effect.{Effect};
 ghost use Rattle.dispatch_history.specs.Legal.{answered};
 ghost use Rattle.dispatch_history.specs.Reply.{reply_to};
@@ -99,8 +99,8 @@ impl Live {
     {
         for made in 0..u64::MAX {
             let Some(call) = next_due(&self.dispatcher, now) else {
-                let named = self.named;
-                self.named = 0;
+                let named = self.reported;
+                self.reported = 0;
                 return Ok(named);
             };
             self.note(&call)?;
@@ -113,15 +113,15 @@ impl Live {
         ensures after { (ds : List ℕ) (es : List Effect) → LiveIs ds es self.old → is_plain call.now ≡ true
             → IsOfHeld self.old.seats call.now → OnOk result (LiveIs ds (answered ds call.now es) self.new) }
         ensures named { (ds : List ℕ) (es : List Effect) → LiveIs ds es self.old
-            → OnOk result ((c : ℕ) → mask_has self.new.named c
-            ≡ (mask_has self.old.named c || is_named_by call.now (reply_to es call.now) c)) }
+            → OnOk result ((c : ℕ) → mask_has self.new.reported c
+            ≡ (mask_has self.old.reported c || is_reported_by call.now (reply_to es call.now) c)) }
         ensures clients { SameClients self.old self.new }
         ensures clock { self.new.clock ≡ self.old.clock }
         ensures err { OnErr result (self.new ≡ self.old) }
     {
         match self.apply(call) {
             Ok(reply) => {
-                self.named |= named_by(call, &reply);
+                self.reported |= reported_by(call, &reply);
                 Ok(())
             }
             Err(error) => Err(error),
@@ -138,8 +138,8 @@ fn waits(is_waiting: bool, pending: &[Args]) -> bool
 }
 
 /// The mask of the channels that a call reported unresponsive.
-fn named_by(call: &Call, reply: &Reply) -> u64
-    ensures { (c : ℕ) → mask_has result c ≡ is_named_by call.now reply.now c }
+fn reported_by(call: &Call, reply: &Reply) -> u64
+    ensures { (c : ℕ) → mask_has result c ≡ is_reported_by call.now reply.now c }
 {
     match call {
         Call::Tick { .. } => named_in(reply),
@@ -149,7 +149,7 @@ fn named_by(call: &Call, reply: &Reply) -> u64
 
 /// The mask of the channels in the reply to a tick.
 fn named_in(reply: &Reply) -> u64
-    ensures { (now c : ℕ) → mask_has result c ≡ is_named_by (Tick now) reply.now c }
+    ensures { (now c : ℕ) → mask_has result c ≡ is_reported_by (Tick now) reply.now c }
 {
     match reply {
         Reply::Named(mask) => *mask,

@@ -3,7 +3,7 @@ ghost use Rattle.std.specs.Prelude.{◌≡◌, ◌==◌, ◌&&◌, ℕ, List, tr
 ghost use Rattle.dispatch_history.specs.Effect.{Effect, past_of};
 ghost use Rattle.dispatch_history.specs.Focus.{asked};
 ghost use Rattle.live_input.specs.Answers.{SameClients, SameRest};
-ghost use Rattle.live_input.specs.Easing.{AsksWanted, Chokes, Eases, IfElse, IsCalm, KeepsNamed, at_clock};
+ghost use Rattle.live_input.specs.Easing.{AsksWanted, Chokes, Eases, IfElse, IsCalm, KeepsReported, at_clock};
 ghost use Rattle.live_input.specs.Limit.{are_placed, asked_last, asked_on, is_placed, is_same, shown_again};
 ghost use Rattle.live_input.specs.Standing.{LiveIs};
 ghost use Rattle.live_input.specs.State.{latest};
@@ -83,7 +83,7 @@ impl Limited {
         ensures calm { (ds : List ℕ) (es : List Effect) → LiveIs ds es self.old.live → IsCalm es self.old
             → IsOk result × (self.new ≡ at_clock (latest now self.old.live) self.old) }
         ensures clients { SameClients self.old.live self.new.live }
-        ensures named { KeepsNamed self.old.live.named self.new.live.named }
+        ensures named { KeepsReported self.old.live.reported self.new.live.reported }
         ensures clock { self.new.live.clock ≡ latest now self.old.live }
     {
         let now = self.live.raise(now);
@@ -103,7 +103,7 @@ impl Limited {
         ensures calm { (ds : List ℕ) (es : List Effect) → LiveIs ds es self.old.live → IsCalm es self.old
             → self.new ≡ self.old }
         ensures clients { SameClients self.old.live self.new.live }
-        ensures named { KeepsNamed self.old.live.named self.new.live.named }
+        ensures named { KeepsReported self.old.live.reported self.new.live.reported }
         ensures clock { self.new.live.clock ≡ self.old.live.clock }
     {
         let before = self.wanted.choked();

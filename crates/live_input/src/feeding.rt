@@ -8,7 +8,7 @@ ghost use Rattle.raw_events.specs.declared.event.RawEvent.{RawEvent as Event};
 ghost use Rattle.device_reader.specs.Cooked.{DevicePlan};
 ghost use Rattle.device_table.specs.Table.{StandsAt, is_there, reader_of};
 ghost use Rattle.live_input.specs.Answers.{Pilfers, SameClients, SameSeats};
-ghost use Rattle.live_input.specs.Easing.{EasedFirst, IsCalm, KeepsNamed};
+ghost use Rattle.live_input.specs.Easing.{EasedFirst, IsCalm, KeepsReported};
 ghost use Rattle.live_input.specs.Giving.{Gives, GivesEvent, IsFed};
 ghost use Rattle.live_input.specs.LimitedCalls.{ReportsChoked};
 ghost use Rattle.live_input.specs.Room.{GivesAtOnce};
@@ -37,7 +37,7 @@ impl Limited {
             × (self.new.wanted ≡ eased.wanted)) }
         ensures devices { self.new.live.devices ≡ self.old.live.devices }
         ensures seats { SameSeats self.old.live self.new.live }
-        ensures named { KeepsNamed self.old.live.named self.new.live.named }
+        ensures named { KeepsReported self.old.live.reported self.new.live.reported }
         ensures reports { (ds : List ℕ) (es : List Effect) → LiveIs ds es self.old.live
             → ReportsChoked self.old self.new }
     {
@@ -61,7 +61,7 @@ impl Limited {
             (self.new.live.devices ≡ slice_set self.old.live.devices (device - 1) None) result eased.live self.new.live
             × (self.new.wanted ≡ eased.wanted)) }
         ensures seats { SameSeats self.old.live self.new.live }
-        ensures named { KeepsNamed self.old.live.named self.new.live.named }
+        ensures named { KeepsReported self.old.live.reported self.new.live.reported }
         ensures reports { (ds : List ℕ) (es : List Effect) → LiveIs ds es self.old.live
             → ReportsChoked self.old self.new }
     {
@@ -89,7 +89,7 @@ impl Limited {
             (λ fs eased. Pilfers ds fs (Pilfer (latest now self.old.live) client.channel device) result
             eased.live self.new.live × (self.new.wanted ≡ eased.wanted)) }
         ensures clients { SameClients self.old.live self.new.live }
-        ensures named { KeepsNamed self.old.live.named self.new.live.named }
+        ensures named { KeepsReported self.old.live.reported self.new.live.reported }
         ensures reports { (ds : List ℕ) (es : List Effect) → LiveIs ds es self.old.live
             → ReportsChoked self.old self.new }
     {
@@ -128,7 +128,7 @@ impl Limited {
             (record { device = device; moment = latest now self.old.live; kind = kind; code = code; value = value })
             result self.old.live self.new.live }
         ensures seats { SameSeats self.old.live self.new.live }
-        ensures named { KeepsNamed self.old.live.named self.new.live.named }
+        ensures named { KeepsReported self.old.live.reported self.new.live.reported }
         ensures reports { (ds : List ℕ) (es : List Effect) → LiveIs ds es self.old.live
             → ReportsChoked self.old self.new }
         ensures others { (d : ℕ) → 1 ≤ d → (d == device) ≡ false

@@ -54,7 +54,7 @@ impl Live {
             (down (fingers_of self.old.fingers device) id x y) result self.old self.new }
         ensures others { OthersStay device self.old self.new }
         ensures seats { SameHolders self.old self.new }
-        ensures named { self.new.named ≡ self.old.named }
+        ensures named { self.new.reported ≡ self.old.reported }
     {
         if !self.devices.is_there(device) {
             return Err(FingerRefused::Device(ArgsRefused::NoDevice));
@@ -91,7 +91,7 @@ impl Live {
             (moved (fingers_of self.old.fingers device) id x y) result self.old self.new }
         ensures others { OthersStay device self.old self.new }
         ensures seats { SameHolders self.old self.new }
-        ensures named { self.new.named ≡ self.old.named }
+        ensures named { self.new.reported ≡ self.old.reported }
     {
         if !self.devices.is_there(device) {
             return Err(FingerRefused::Device(ArgsRefused::NoDevice));
@@ -116,7 +116,7 @@ impl Live {
             (lifted (fingers_of self.old.fingers device) id) result self.old self.new }
         ensures others { OthersStay device self.old self.new }
         ensures seats { SameHolders self.old self.new }
-        ensures named { self.new.named ≡ self.old.named }
+        ensures named { self.new.reported ≡ self.old.reported }
     {
         if !self.devices.is_there(device) {
             return Err(FingerRefused::Device(ArgsRefused::NoDevice));
@@ -152,7 +152,7 @@ impl Live {
             (cancelled (fingers_of self.old.fingers device) id) result self.old self.new }
         ensures others { OthersStay device self.old self.new }
         ensures seats { SameHolders self.old self.new }
-        ensures named { self.new.named ≡ self.old.named }
+        ensures named { self.new.reported ≡ self.old.reported }
     {
         if !self.devices.is_there(device) {
             return Err(FingerRefused::Device(ArgsRefused::NoDevice));
@@ -182,7 +182,7 @@ impl Live {
             (framed (fingers_of self.old.fingers device)) result self.old self.new }
         ensures others { OthersStay device self.old self.new }
         ensures seats { SameHolders self.old self.new }
-        ensures named { self.new.named ≡ self.old.named }
+        ensures named { self.new.reported ≡ self.old.reported }
     {
         if !self.devices.is_there(device) {
             return Err(FingerRefused::Device(ArgsRefused::NoDevice));
@@ -208,7 +208,7 @@ impl Live {
             (Ok (record { strokes = strokes.now; after = after })) result self.old self.new }
         ensures others { OthersStay device self.old self.new }
         ensures seats { SameHolders self.old self.new }
-        ensures named { self.new.named ≡ self.old.named }
+        ensures named { self.new.reported ≡ self.old.reported }
     {
         let now = now.later(self.clock);
         match self.take_all(now, device, strokes) {

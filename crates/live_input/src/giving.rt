@@ -61,7 +61,7 @@ impl Live {
         ensures others { (d : ℕ) → 1 ≤ d → (d == device) ≡ false
             → reader_of self.new.devices d ≡ reader_of self.old.devices d }
         ensures seats { SameSeats self.old self.new }
-        ensures named { self.new.named ≡ self.old.named }
+        ensures named { self.new.reported ≡ self.old.reported }
     {
         if !self.devices.is_there(device) {
             return Err(ArgsRefused::NoDevice);
@@ -87,7 +87,7 @@ impl Live {
             result self.old self.new }
         ensures devices { self.new.devices ≡ self.old.devices }
         ensures seats { SameSeats self.old self.new }
-        ensures named { self.new.named ≡ self.old.named }
+        ensures named { self.new.reported ≡ self.old.reported }
     {
         if !self.devices.is_there(device_of(&args)) {
             return Err(ArgsRefused::NoDevice);
@@ -111,7 +111,7 @@ impl Live {
             → MayCountMore (length self.old.pending + length self.old.pending) es → GoesAtOnce n result self.new }
         ensures devices { self.new.devices ≡ self.old.devices }
         ensures seats { SameSeats self.old self.new }
-        ensures named { self.new.named ≡ self.old.named }
+        ensures named { self.new.reported ≡ self.old.reported }
         ensures clock { self.new.clock ≡ self.old.clock }
     {
         if self.is_quiet() {
@@ -160,7 +160,7 @@ impl Live {
             → MayCountMore (length self.old.pending) es → IsOk result }
         ensures devices { self.new.devices ≡ self.old.devices }
         ensures seats { SameSeats self.old self.new }
-        ensures named { self.new.named ≡ self.old.named }
+        ensures named { self.new.reported ≡ self.old.reported }
         ensures clock { self.new.clock ≡ self.old.clock }
     {
         let mut fits = true;

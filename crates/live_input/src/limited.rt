@@ -34,7 +34,7 @@ impl Limited {
         ensures clock { IfOk result (λ s. s.live.clock ≡ 0) }
         ensures seats { IfOk result (λ s. s.live.seats ≡ replicate 64 vacant) }
         ensures opened { IfOk result (λ s. s.live.opened ≡ 0) }
-        ensures named { IfOk result (λ s. s.live.named ≡ 0) }
+        ensures named { IfOk result (λ s. s.live.reported ≡ 0) }
         ensures devices { IfOk result (λ s. s.live.devices ≡ replicate 8 None) }
         ensures pending { IfOk result (λ s. s.live.pending ≡ []) }
         ensures fingers { IfOk result (λ s. s.live.fingers ≡ replicate 8 (none_down 0)) }
@@ -75,7 +75,7 @@ impl Limited {
         ensures after { (ds : List ℕ) (es : List Effect) → LiveIs ds es self.old.live
             → is_open self.old.live.seats client ≡ true
             → ClosesEased ds (latest now self.old.live) client es result self.old self.new }
-        ensures named { OnErr result (self.new.live.named ≡ self.old.live.named) }
+        ensures named { OnErr result (self.new.live.reported ≡ self.old.live.reported) }
     {
         if !self.live.is_open(client) {
             return Err(CloseRefused::NotOpen);
@@ -95,10 +95,10 @@ impl Limited {
     /// or one that was choked is not yet in the mask of an `advance`, it is the clock.
     pub fn due(&self) -> Option<u64>
         ensures calm { (ds : List ℕ) (es : List Effect) → LiveIs ds es self.now.live → IsCalm es self.now
-            → self.now.live.named ≡ 0 → result ≡ due_of es self.now.live }
+            → self.now.live.reported ≡ 0 → result ≡ due_of es self.now.live }
         ensures uneasy { (ds : List ℕ) (es : List Effect) → LiveIs ds es self.now.live → (IsCalm es self.now → ⊥)
             → result ≡ Some self.now.live.clock }
-        ensures told { (self.now.live.named ≡ 0 → ⊥) → result ≡ Some self.now.live.clock }
+        ensures told { (self.now.live.reported ≡ 0 → ⊥) → result ≡ Some self.now.live.clock }
     {
         if self.live.is_told() {
             self.due_eased()
@@ -152,9 +152,9 @@ impl Limited {
 impl Live {
     /// Whether all reports were returned.
     fn is_told(&self) -> bool
-        ensures { result ≡ (self.now.named == 0) }
+        ensures { result ≡ (self.now.reported == 0) }
     {
-        self.named == 0
+        self.reported == 0
     }
 }
 

@@ -47,7 +47,7 @@ pub struct Live {
     pub(crate) requested: [Option<u32>; 4],
     pub(crate) asked: DisplayId,
     /// The channels whose clients were reported unresponsive by an `advance` that ran out of memory.
-    pub(crate) named: u64,
+    pub(crate) reported: u64,
     pub(crate) devices: DeviceTable,
     /// What devices gave that must still be handed in, oldest first. It is empty unless memory ran out.
     pub(crate) pending: Vec<Args>,
@@ -71,7 +71,7 @@ impl Model for Live {
       windows = l.windows;
       requested = l.requested;
       asked = l.asked;
-      named = l.named;
+      reported = l.reported;
       devices = l.devices;
       pending = l.pending.items;
       steps = l.steps;
@@ -89,7 +89,7 @@ impl Live {
         ensures clock { IfOk result (λ l. l.clock ≡ 0) }
         ensures seats { IfOk result (λ l. l.seats ≡ replicate 64 vacant) }
         ensures opened { IfOk result (λ l. l.opened ≡ 0) }
-        ensures named { IfOk result (λ l. l.named ≡ 0) }
+        ensures named { IfOk result (λ l. l.reported ≡ 0) }
         ensures devices { IfOk result (λ l. l.devices ≡ replicate 8 None) }
         ensures pending { IfOk result (λ l. l.pending ≡ []) }
         ensures fingers { IfOk result (λ l. l.fingers ≡ replicate 8 (none_down 0)) }
@@ -105,7 +105,7 @@ impl Live {
             windows: Snapshot::empty(alloc),
             requested: [None; 4],
             asked: DisplayId::zero(),
-            named: 0,
+            reported: 0,
             devices: DeviceTable::new(),
             pending: Vec::new(alloc),
             steps: Steps::new(),

@@ -46,7 +46,7 @@ impl Live {
             → is_open self.old.seats client ≡ true → OnOk result (gone self.new.dispatcher client.channel
             ≡ received (past_of (answered ds (Receive client.channel) es)) client.channel) }
         ensures clients { SameClients self.old self.new }
-        ensures named { self.new.named ≡ self.old.named }
+        ensures named { self.new.reported ≡ self.old.reported }
         ensures clock { self.new.clock ≡ self.old.clock }
         ensures err { OnErr result (self.new ≡ self.old) }
         ensures calm { (ds : List ℕ) (es : List Effect) → LiveIs ds es self.old → MayCount es → IsOk result }
@@ -74,7 +74,7 @@ impl Live {
             (Finish (latest now self.old) client.channel (number_of (seat_of self.old.seats client.channel) seq))
             result self.old self.new }
         ensures clients { SameClients self.old self.new }
-        ensures named { self.new.named ≡ self.old.named }
+        ensures named { self.new.reported ≡ self.old.reported }
         ensures calm { (ds : List ℕ) (es : List Effect) → LiveIs ds es self.old → MayCount es
             → result ≡ Err FinishRefused.Memory → ⊥ }
     {
@@ -109,7 +109,7 @@ impl Live {
         ensures after { (ds : List ℕ) (es : List Effect) → LiveIs ds es self.old → is_open self.old.seats client ≡ true
             → Pilfers ds es (Pilfer (latest now self.old) client.channel device) result self.old self.new }
         ensures clients { SameClients self.old self.new }
-        ensures named { self.new.named ≡ self.old.named }
+        ensures named { self.new.reported ≡ self.old.reported }
     {
         if !is_open(&self.seats, client) {
             return Err(PilferRefused::NotOpen);

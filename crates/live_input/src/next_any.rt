@@ -53,7 +53,7 @@ impl Live {
         ensures hands { (ds : List ℕ) (es : List Effect) → LiveIs ds es self.old
             → HandsOut ds es result self.old self.new }
         ensures clients { SameClients self.old self.new }
-        ensures named { self.new.named ≡ self.old.named }
+        ensures named { self.new.reported ≡ self.old.reported }
         ensures clock { self.new.clock ≡ self.old.clock }
         ensures err { OnErr result (self.new ≡ self.old) }
         ensures calm { (ds : List ℕ) (es : List Effect) → LiveIs ds es self.old → MayCount es → IsOk result }

@@ -11,7 +11,7 @@ ghost use Rattle.device_reader.specs.Cooked.{Keys, Touches};
 ghost use Rattle.device_table.specs.Table.{is_there, reader_of};
 ghost use Rattle.live_input.specs.Answers.{Finishes, SameClients, handed};
 ghost use Rattle.live_input.specs.HandingOut.{HandsOut};
-ghost use Rattle.live_input.specs.Opening.{Opens, OpensOn, OpensWith};
+ghost use Rattle.live_input.specs.Opening.{OpensClient, OpensOn, OpensWith};
 ghost use Rattle.live_input.specs.Outgoing.{taken};
 ghost use Rattle.live_input.specs.Plugging.{Adds, is_slots};
 ghost use Rattle.live_input.specs.Receiving.{receives};
@@ -37,7 +37,7 @@ impl Limited {
     /// As [`Live::open`].
     pub fn open(&mut self) -> Result<Client, OpenRefused>
         ensures full { (result ≡ Err OpenRefused.Full) ↔ (is_full self.old.live.seats ≡ true) }
-        ensures seat { IfOk result (λ client. Opens client self.old.live self.new.live) }
+        ensures seat { IfOk result (λ client. OpensClient client self.old.live self.new.live) }
         ensures after { (ds : List ℕ) (es : List Effect) → LiveIs ds es self.old.live → IfOk result
             (λ client. OpensOn ds es client self.old.live self.new.live) }
         ensures err { OnErr result (self.new.live ≡ self.old.live) }
@@ -76,7 +76,7 @@ impl Limited {
             → is_open self.old.live.seats client ≡ true → OnOk result (gone self.new.live.dispatcher client.channel
             ≡ received (past_of (answered ds (Receive client.channel) es)) client.channel) }
         ensures clients { SameClients self.old.live self.new.live }
-        ensures named { self.new.live.named ≡ self.old.live.named }
+        ensures named { self.new.live.reported ≡ self.old.live.reported }
         ensures clock { self.new.live.clock ≡ self.old.live.clock }
         ensures err { OnErr result (self.new.live ≡ self.old.live) }
         ensures calm { (ds : List ℕ) (es : List Effect) → LiveIs ds es self.old.live → MayCount es → IsOk result }
@@ -90,7 +90,7 @@ impl Limited {
         ensures hands { (ds : List ℕ) (es : List Effect) → LiveIs ds es self.old.live
             → HandsOut ds es result self.old.live self.new.live }
         ensures clients { SameClients self.old.live self.new.live }
-        ensures named { self.new.live.named ≡ self.old.live.named }
+        ensures named { self.new.live.reported ≡ self.old.live.reported }
         ensures clock { self.new.live.clock ≡ self.old.live.clock }
         ensures err { OnErr result (self.new.live ≡ self.old.live) }
         ensures calm { (ds : List ℕ) (es : List Effect) → LiveIs ds es self.old.live → MayCount es → IsOk result }
@@ -109,7 +109,7 @@ impl Limited {
             (number_of (seat_of self.old.live.seats client.channel) seq))
             result self.old.live self.new.live }
         ensures clients { SameClients self.old.live self.new.live }
-        ensures named { self.new.live.named ≡ self.old.live.named }
+        ensures named { self.new.live.reported ≡ self.old.live.reported }
         ensures calm { (ds : List ℕ) (es : List Effect) → LiveIs ds es self.old.live → MayCount es
             → result ≡ Err FinishRefused.Memory → ⊥ }
         ensures wanted { self.new.wanted ≡ self.old.wanted }
@@ -130,7 +130,7 @@ impl Limited {
             → is_open self.old.live.seats client ≡ true → FinishesThrough ds (latest now self.old.live) client.channel
             (number_of (seat_of self.old.live.seats client.channel) seq) es result self.old.live self.new.live }
         ensures clients { SameClients self.old.live self.new.live }
-        ensures named { self.new.live.named ≡ self.old.live.named }
+        ensures named { self.new.live.reported ≡ self.old.live.reported }
         ensures wanted { self.new.wanted ≡ self.old.wanted }
     {
         self.live.finish_through(now, client, seq)

@@ -78,7 +78,7 @@ impl Live {
             → Gives ds (latest now self.old) es (Reset device ∷ [])
             (self.new.devices ≡ slice_set self.old.devices (device - 1) None) result self.old self.new }
         ensures seats { SameSeats self.old self.new }
-        ensures named { self.new.named ≡ self.old.named }
+        ensures named { self.new.reported ≡ self.old.reported }
     {
         if !self.devices.is_there(device) {
             return Err(ArgsRefused::NoDevice);

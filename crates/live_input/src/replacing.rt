@@ -35,7 +35,7 @@ impl Live {
         ensures after { (ds : List ℕ) (es : List Effect) → LiveIs ds es self.old
             → WindowGoes ds (latest now self.old) client info es result self.old self.new }
         ensures clients { SameClients self.old self.new }
-        ensures named { self.new.named ≡ self.old.named }
+        ensures named { self.new.reported ≡ self.old.reported }
     {
         if !is_open(&self.seats, client) {
             return Err(WindowRefused::NotOpen);

@@ -25,7 +25,7 @@ impl Live {
         ensures after { (ds : List ℕ) (es : List Effect) → LiveIs ds es self.old
             → WindowsGo ds (latest now self.old) windows.items es result self.old self.new }
         ensures clients { SameClients self.old self.new }
-        ensures named { self.new.named ≡ self.old.named }
+        ensures named { self.new.reported ≡ self.old.reported }
         ensures clock { (self.old.clock ≤ self.new.clock) × (self.new.clock ≤ latest now self.old) }
         ensures err { OnErr result (self.new ≡ self.old) }
     {
@@ -105,7 +105,7 @@ impl Live {
         ensures stale { may_ask self.old.seats client ≡ false
             → (result ≡ Err FocusRefused.NotOpen) × (self.new ≡ self.old) }
         ensures clients { SameClients self.old self.new }
-        ensures named { self.new.named ≡ self.old.named }
+        ensures named { self.new.reported ≡ self.old.reported }
         ensures clock { (self.old.clock ≤ self.new.clock) × (self.new.clock ≤ latest now self.old) }
         ensures err { OnErr result (self.new ≡ self.old) }
     {

@@ -36,7 +36,7 @@ impl Live {
             → is_open self.old.seats client ≡ true → FinishesThrough ds (latest now self.old) client.channel
             (number_of (seat_of self.old.seats client.channel) seq) es result self.old self.new }
         ensures clients { SameClients self.old self.new }
-        ensures named { self.new.named ≡ self.old.named }
+        ensures named { self.new.reported ≡ self.old.reported }
     {
         if !is_open(&self.seats, client) {
             return Err(FinishRefused::NotOpen);

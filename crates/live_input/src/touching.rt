@@ -4,7 +4,7 @@ ghost use Rattle.dispatch_history.specs.Effect.{Effect};
 ghost use Rattle.raw_events.specs.declared.event.RawEvent.{RawEvent as Event};
 ghost use Rattle.device_reader.specs.Cooked.{DevicePlan};
 ghost use Rattle.device_table.specs.Table.{StandsAt, is_there};
-ghost use Rattle.live_input.specs.Easing.{EasedFirst, IsCalm, KeepsNamed, at_clock};
+ghost use Rattle.live_input.specs.Easing.{EasedFirst, IsCalm, KeepsReported, at_clock};
 ghost use Rattle.live_input.specs.Fingers.{OthersStay, SameHolders, TouchGoes, TouchGoesAtOnce, cancelled, down, framed, lifted, moved};
 ghost use Rattle.live_input.specs.LimitedCalls.{ReportsChoked};
 ghost use Rattle.live_input.specs.Settling.{waits};
@@ -42,7 +42,7 @@ impl Limited {
             (at_clock (latest now self.old.live) self.old).live self.new.live }
         ensures others { OthersStay device self.old.live self.new.live }
         ensures seats { SameHolders self.old.live self.new.live }
-        ensures named { KeepsNamed self.old.live.named self.new.live.named }
+        ensures named { KeepsReported self.old.live.reported self.new.live.reported }
         ensures reports { (ds : List ℕ) (es : List Effect) → LiveIs ds es self.old.live
             → ReportsChoked self.old self.new }
     {
@@ -80,7 +80,7 @@ impl Limited {
             (at_clock (latest now self.old.live) self.old).live self.new.live }
         ensures others { OthersStay device self.old.live self.new.live }
         ensures seats { SameHolders self.old.live self.new.live }
-        ensures named { KeepsNamed self.old.live.named self.new.live.named }
+        ensures named { KeepsReported self.old.live.reported self.new.live.reported }
         ensures reports { (ds : List ℕ) (es : List Effect) → LiveIs ds es self.old.live
             → ReportsChoked self.old self.new }
     {
@@ -111,7 +111,7 @@ impl Limited {
             (at_clock (latest now self.old.live) self.old).live self.new.live }
         ensures others { OthersStay device self.old.live self.new.live }
         ensures seats { SameHolders self.old.live self.new.live }
-        ensures named { KeepsNamed self.old.live.named self.new.live.named }
+        ensures named { KeepsReported self.old.live.reported self.new.live.reported }
         ensures reports { (ds : List ℕ) (es : List Effect) → LiveIs ds es self.old.live
             → ReportsChoked self.old self.new }
     {
@@ -147,7 +147,7 @@ impl Limited {
             (at_clock (latest now self.old.live) self.old).live self.new.live }
         ensures others { OthersStay device self.old.live self.new.live }
         ensures seats { SameHolders self.old.live self.new.live }
-        ensures named { KeepsNamed self.old.live.named self.new.live.named }
+        ensures named { KeepsReported self.old.live.reported self.new.live.reported }
         ensures reports { (ds : List ℕ) (es : List Effect) → LiveIs ds es self.old.live
             → ReportsChoked self.old self.new }
     {
@@ -178,7 +178,7 @@ impl Limited {
             (at_clock (latest now self.old.live) self.old).live self.new.live }
         ensures others { OthersStay device self.old.live self.new.live }
         ensures seats { SameHolders self.old.live self.new.live }
-        ensures named { KeepsNamed self.old.live.named self.new.live.named }
+        ensures named { KeepsReported self.old.live.reported self.new.live.reported }
         ensures reports { (ds : List ℕ) (es : List Effect) → LiveIs ds es self.old.live
             → ReportsChoked self.old self.new }
     {

@@ -3,7 +3,7 @@ ghost use Rattle.std.specs.Prelude.{◌≡◌, ℕ, false, map, Err, List, IfOk,
 ghost use Rattle.dispatch_calls.specs.declared.call.Call.TheVariants.{FocusOn, Windows};
 ghost use Rattle.dispatch_history.specs.Effect.{Effect};
 ghost use Rattle.live_input.specs.Answers.{Makes, SameClients};
-ghost use Rattle.live_input.specs.Easing.{KeepsNamed};
+ghost use Rattle.live_input.specs.Easing.{KeepsReported};
 ghost use Rattle.live_input.specs.Limit.{has_window, put_in, unless_choked, walled, with_request, with_windows};
 ghost use Rattle.live_input.specs.LimitedCalls.{Accepts, AsksEased, PutsEased, ReportsChoked, ShowsEased, ShowsOrNot};
 ghost use Rattle.live_input.specs.Showing.{channel_of, may_ask};
@@ -28,7 +28,7 @@ impl Limited {
         ensures after { (ds : List ℕ) (es : List Effect) → LiveIs ds es self.old.live
             → ShowsEased ds (latest now self.old.live) windows.items es result self.old self.new }
         ensures clients { SameClients self.old.live self.new.live }
-        ensures named { KeepsNamed self.old.live.named self.new.live.named }
+        ensures named { KeepsReported self.old.live.reported self.new.live.reported }
         ensures reports { (ds : List ℕ) (es : List Effect) → LiveIs ds es self.old.live
             → ReportsChoked self.old self.new }
     {
@@ -46,7 +46,7 @@ impl Limited {
         ensures after { (ds : List ℕ) (es : List Effect) → LiveIs ds es self.old.live
             → ShowsOrNot ds (latest now self.old.live) windows.items es result self.old self.new }
         ensures clients { SameClients self.old.live self.new.live }
-        ensures named { KeepsNamed self.old.live.named self.new.live.named }
+        ensures named { KeepsReported self.old.live.reported self.new.live.reported }
         ensures reports { (ds : List ℕ) (es : List Effect) → LiveIs ds es self.old.live
             → ReportsChoked self.old self.new }
     {
@@ -63,7 +63,7 @@ impl Limited {
             (map window_of (walled self.old.wanted.choked windows.items))) self.new.live) }
         ensures wanted { OnOk result (self.new.wanted ≡ with_windows windows.items self.old.wanted) }
         ensures clients { SameClients self.old.live self.new.live }
-        ensures named { self.new.live.named ≡ self.old.live.named }
+        ensures named { self.new.live.reported ≡ self.old.live.reported }
         ensures choked { self.new.wanted.choked ≡ self.old.wanted.choked }
         ensures err { OnErr result (self.new ≡ self.old) }
     {
@@ -88,7 +88,7 @@ impl Limited {
         ensures after { (ds : List ℕ) (es : List Effect) → LiveIs ds es self.old.live
             → PutsEased ds (latest now self.old.live) client info es result self.old self.new }
         ensures clients { SameClients self.old.live self.new.live }
-        ensures named { KeepsNamed self.old.live.named self.new.live.named }
+        ensures named { KeepsReported self.old.live.reported self.new.live.reported }
         ensures reports { (ds : List ℕ) (es : List Effect) → LiveIs ds es self.old.live
             → ReportsChoked self.old self.new }
     {
@@ -120,7 +120,7 @@ impl Limited {
         ensures stale { may_ask self.old.live.seats client ≡ false
             → (result ≡ Err FocusRefused.NotOpen) × (self.new ≡ self.old) }
         ensures clients { SameClients self.old.live self.new.live }
-        ensures named { KeepsNamed self.old.live.named self.new.live.named }
+        ensures named { KeepsReported self.old.live.reported self.new.live.reported }
         ensures reports { (ds : List ℕ) (es : List Effect) → LiveIs ds es self.old.live
             → ReportsChoked self.old self.new }
     {
@@ -146,7 +146,7 @@ impl Limited {
             (channel_of (unless_choked self.old.wanted.choked client))) self.new.live
             × (self.new.wanted ≡ with_request display client self.old.wanted)) }
         ensures clients { SameClients self.old.live self.new.live }
-        ensures named { self.new.live.named ≡ self.old.live.named }
+        ensures named { self.new.live.reported ≡ self.old.live.reported }
         ensures choked { self.new.wanted.choked ≡ self.old.wanted.choked }
         ensures err { OnErr result ((self.new ≡ self.old) × (result ≡ Err FocusRefused.Memory)) }
     {

@@ -18,7 +18,7 @@ use Rattle.gesture_verifier.specs.Told.{is_device}
 use Rattle.plain_calls.specs.declared.message.PlainMessage.{PlainMessage}
 use Rattle.plain_calls.specs.Laws.{HaveIds, IsBody, IsMotion, ReadAgainLaw}
 use Rattle.plain_calls.specs.Numbers.{flag}
-use Rattle.plain_calls.specs.Plain.{actions, body_of, key_of, motion_of, pointers_from}
+use Rattle.plain_calls.specs.Plain.{actions, body_of, key_msg_of, motion_of, pointers_from}
 use Rattle.plain_calls.specs.Told.{no_pointer, numbered, places_of, plain_message, plain_pointer, with_body, with_key, with_motion}
 use Rattle.plain_calls.proofs.ReadPointers.{fits}
 
@@ -69,7 +69,7 @@ key_down : (k : KeyMsg) (down : Bool) → cond (nat_le (flag down) 1) (Some (key
 key_down k true = refl
 key_down k false = refl
 
-key_again : (k : KeyMsg) (p : PlainMessage) → is_device k.key.device ≡ true → key_of (with_key k p) ≡ Some k
+key_again : (k : KeyMsg) (p : PlainMessage) → is_device k.key.device ≡ true → key_msg_of (with_key k p) ≡ Some k
 key_again k p h =
     ap (λ b. cond (b && nat_le (flag k.key.down) 1) (Some (key_by k (nat_eq (flag k.key.down) 1))) None) h ∙ key_down k k.key.down
 

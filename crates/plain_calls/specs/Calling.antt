@@ -1,6 +1,6 @@
 -- The result of a call in plain numbers.
 use Rattle.std.specs.Prelude.{◌≡◌, ℕ, Option, Some, None, Result, Ok, Err}
-use Rattle.plain_calls.specs.Status.{is_ok, is_nothing, out_of_range}
+use Rattle.plain_calls.specs.Status.{status_ok, is_nothing, out_of_range}
 
 -- If a number is out of its range, the status says so and this holds. Otherwise the call's own statement holds for
 -- what the number stands for.
@@ -25,4 +25,4 @@ written plain (Some a) before = plain a
 -- the status of an optional result
 abbrev pub answer_status : {A : Type 0} → Option A → ℕ
 answer_status None = is_nothing
-answer_status (Some a) = is_ok
+answer_status (Some a) = status_ok

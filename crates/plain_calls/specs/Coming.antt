@@ -28,4 +28,4 @@ pub record Closed (now : ℕ) (client : Client) (old new : Limited) (r : Result 
   pub after :
       (ds : List ℕ) (es : List Effect) → LiveIs ds es old.live → is_open old.live.seats client ≡ true
       → ClosesEased ds (latest now old.live) client es r old new
-  pub named : OnErr r (new.live.named ≡ old.live.named)
+  pub named : OnErr r (new.live.reported ≡ old.live.reported)

@@ -18,7 +18,7 @@ use Rattle.live_input.specs.declared.refused.ArgsRefused.TheVariants.{Inconsiste
 use Rattle.live_input.specs.Advancing.{Advances, Advanced}
 use Rattle.live_input.specs.Answers.{SameSeats}
 use Rattle.live_input.specs.LimitedCalls.{ReportsChoked}
-use Rattle.live_input.specs.Easing.{EasedFirst, GoesEased, IsCalm, KeepsNamed}
+use Rattle.live_input.specs.Easing.{EasedFirst, GoesEased, IsCalm, KeepsReported}
 use Rattle.live_input.specs.Giving.{Gives, GivesEvent, HandedInPart, IsFed, notified}
 use Rattle.live_input.specs.Plugging.{Adds, is_slots}
 use Rattle.live_input.specs.Room.{GivesAtOnce, HasRoom, most_args}
@@ -30,9 +30,9 @@ use Rattle.live_input.specs.State.{latest}
 
 -- the first moment at which something is due, which is the clock while something is to be eased or was not told
 pub record IsDue (s : Limited) (r : Option ℕ) : Type 0 where
-  pub calm : (ds : List ℕ) (es : List Effect) → LiveIs ds es s.live → IsCalm es s → s.live.named ≡ 0 → r ≡ due_of es s.live
+  pub calm : (ds : List ℕ) (es : List Effect) → LiveIs ds es s.live → IsCalm es s → s.live.reported ≡ 0 → r ≡ due_of es s.live
   pub uneasy : (ds : List ℕ) (es : List Effect) → LiveIs ds es s.live → (IsCalm es s → ⊥) → r ≡ Some s.live.clock
-  pub told : (s.live.named ≡ 0 → ⊥) → r ≡ Some s.live.clock
+  pub told : (s.live.reported ≡ 0 → ⊥) → r ≡ Some s.live.clock
 
 -- what is due up to a time
 pub record CaughtUp (now : ℕ) (old new : Limited) (r : Result ℕ AllocError) : Type 0 where
@@ -83,7 +83,7 @@ pub record Happened (now device kind code : ℕ) (value : ℤ) (old new : Limite
       → GivesAtOnce n es plan past (event (latest now old.live) device kind code value) r old.live new.live
   pub others : OthersStay device old new
   pub seats : SameSeats old.live new.live
-  pub named : KeepsNamed old.live.named new.live.named
+  pub named : KeepsReported old.live.reported new.live.reported
   pub reports : (ds : List ℕ) (es : List Effect) → LiveIs ds es old.live → ReportsChoked old new
 
 -- the result of args that are ready
@@ -96,7 +96,7 @@ pub record HandedIn (now : ℕ) (args : Args) (old new : Limited) (r : Result (U
       × (new.wanted ≡ eased.wanted))
   pub devices : new.live.devices ≡ old.live.devices
   pub seats : SameSeats old.live new.live
-  pub named : KeepsNamed old.live.named new.live.named
+  pub named : KeepsReported old.live.reported new.live.reported
   pub reports : (ds : List ℕ) (es : List Effect) → LiveIs ds es old.live → ReportsChoked old new
 
 -- the result of making room for events
@@ -117,7 +117,7 @@ pub record Removed (now device : ℕ) (old new : Limited) (r : Result (Unit {0})
       (λ fs eased. Gives ds (latest now old.live) fs (Reset device ∷ []) (new.live.devices ≡ slice_set old.live.devices (device - 1) None)
       r eased.live new.live × (new.wanted ≡ eased.wanted))
   pub seats : SameSeats old.live new.live
-  pub named : KeepsNamed old.live.named new.live.named
+  pub named : KeepsReported old.live.reported new.live.reported
   pub reports : (ds : List ℕ) (es : List Effect) → LiveIs ds es old.live → ReportsChoked old new
 
 -- devices that are there stay as they are, and beside devices and the fingers on them nothing changes

@@ -9,7 +9,7 @@ use Rattle.live_input.specs.declared.refused.ArgsRefused.TheVariants.{Memory, No
 use Rattle.live_input.specs.declared.refused.FingerRefused.{FingerRefused}
 use Rattle.live_input.specs.declared.refused.FingerRefused.TheVariants.{Device}
 use Rattle.live_input.specs.declared.limit.Limited.{Limited}
-use Rattle.live_input.specs.Easing.{EasedFirst, IsCalm, KeepsNamed, at_clock}
+use Rattle.live_input.specs.Easing.{EasedFirst, IsCalm, KeepsReported, at_clock}
 use Rattle.live_input.specs.Fingers.{Planned, SameHolders, TouchGoes, TouchGoesAtOnce}
 use Rattle.live_input.specs.LimitedCalls.{ReportsChoked}
 use Rattle.live_input.specs.Settling.{waits}
@@ -38,7 +38,7 @@ pub record Touched
       (at_clock (latest now old.live) old).live new.live
   pub others : OthersStay device old new
   pub seats : SameHolders old.live new.live
-  pub named : KeepsNamed old.live.named new.live.named
+  pub named : KeepsReported old.live.reported new.live.reported
   pub reports : (ds : List ℕ) (es : List Effect) → LiveIs ds es old.live → ReportsChoked old new
 
 -- The same in plain numbers: one out of its range is reported, and nothing changes.

@@ -21,7 +21,7 @@ use Rattle.live_input.specs.Seats.{is_open, seat_of, number_of}
 use Rattle.live_input.specs.Standing.{LiveIs}
 use Rattle.live_input.specs.declared.limit.Limited.{Limited}
 use Rattle.live_input.specs.LimitedCalls.{ReportsChoked}
-use Rattle.live_input.specs.Easing.{EasedFirst, KeepsNamed}
+use Rattle.live_input.specs.Easing.{EasedFirst, KeepsReported}
 use Rattle.live_input.specs.State.{LiveState, latest}
 use Rattle.live_input.specs.Outgoing.{taken}
 
@@ -42,7 +42,7 @@ pub record Received (client : Client) (old new : Limited) (r : Result (Option Me
       (ds : List ℕ) (es : List Effect) → LiveIs ds es old.live → is_open old.live.seats client ≡ true
       → OnOk r (gone new.live.dispatcher client.channel ≡ received (past_of (answered ds (Receive client.channel) es)) client.channel)
   pub clients : SameClients old.live new.live
-  pub named : new.live.named ≡ old.live.named
+  pub named : new.live.reported ≡ old.live.reported
   pub clock : new.live.clock ≡ old.live.clock
   pub err : OnErr r (new.live ≡ old.live)
   pub calm : (ds : List ℕ) (es : List Effect) → LiveIs ds es old.live → MayCount es → IsOk r
@@ -55,7 +55,7 @@ pub record Finished (now : ℕ) (client : Client) (seq : ℕ) (old new : Limited
       (ds : List ℕ) (es : List Effect) → LiveIs ds es old.live → is_open old.live.seats client ≡ true
       → Finishes ds es (Finish (latest now old.live) client.channel (number_of (seat_of old.live.seats client.channel) seq)) r old.live new.live
   pub clients : SameClients old.live new.live
-  pub named : new.live.named ≡ old.live.named
+  pub named : new.live.reported ≡ old.live.reported
   pub calm : (ds : List ℕ) (es : List Effect) → LiveIs ds es old.live → MayCount es → r ≡ Err finish.Memory → ⊥
 
 -- the result of a pilfer
@@ -66,7 +66,7 @@ pub record Pilfered (now : ℕ) (client : Client) (device : ℕ) (old new : Limi
       → EasedFirst ds (latest now old.live) es old new (r ≡ Err pilfer.Memory)
       (λ fs eased. Pilfers ds fs (Pilfer (latest now old.live) client.channel device) r eased.live new.live × (new.wanted ≡ eased.wanted))
   pub clients : SameClients old.live new.live
-  pub named : KeepsNamed old.live.named new.live.named
+  pub named : KeepsReported old.live.reported new.live.reported
   pub reports : (ds : List ℕ) (es : List Effect) → LiveIs ds es old.live → ReportsChoked old new
 
 -- a mask of the channels that have a message for their client

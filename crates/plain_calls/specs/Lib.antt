@@ -3,7 +3,7 @@ pub mod Numbers
 pub mod Plain
 pub mod Told
 pub mod Calling
-pub mod Choking
+pub mod Limited
 pub mod Options
 pub mod Clients
 pub mod Replies
@@ -20,6 +20,6 @@ pub mod Laws
 pub mod Through
 pub mod NextAny
 pub mod Fingers
-pub mod Pointing
+pub mod WindowAt
 pub mod KeysDown
 pub mod Repeats

@@ -22,7 +22,7 @@ pub record ReceivedAny (old new : Limited) (r : Result (Option Handed) AllocErro
   pub wanted : new.wanted ≡ old.wanted
   pub hands : (ds : List ℕ) (es : List Effect) → LiveIs ds es old.live → HandsOut ds es r old.live new.live
   pub clients : SameClients old.live new.live
-  pub named : new.live.named ≡ old.live.named
+  pub named : new.live.reported ≡ old.live.reported
   pub clock : new.live.clock ≡ old.live.clock
   pub err : OnErr r (new.live ≡ old.live)
   pub calm : (ds : List ℕ) (es : List Effect) → LiveIs ds es old.live → MayCount es → IsOk r

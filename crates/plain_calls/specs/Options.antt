@@ -3,7 +3,7 @@ use Rattle.std.specs.Prelude.{◌≡◌, ℕ, nat_eq, nat_le, Option, Some, None
 use Rattle.live_input.specs.declared.options.Options.{Options}
 use Rattle.plain_calls.specs.declared.options.PlainOptions.{PlainOptions}
 use Rattle.plain_calls.specs.Calling.{written}
-use Rattle.plain_calls.specs.Status.{is_ok, not_open}
+use Rattle.plain_calls.specs.Status.{status_ok, not_open}
 
 -- the options that the numbers stand for: a client finishes by itself or does not
 abbrev pub options_of : PlainOptions → Option Options
@@ -13,7 +13,7 @@ options_of o =
 -- the status of what a client was opened with
 abbrev pub user_data_status : Option ℕ → ℕ
 user_data_status None = not_open
-user_data_status (Some n) = is_ok
+user_data_status (Some n) = status_ok
 
 -- the number that an open client was opened with is returned
 abbrev pub AnswersUserData : ℕ → Option ℕ → (before after : ℕ) → Type 0

@@ -40,8 +40,8 @@ motion_of m =
     else None
 
 -- the key of a message: its device is one, and it goes down or up
-abbrev pub key_of : PlainMessage → Option KeyMsg
-key_of m =
+abbrev pub key_msg_of : PlainMessage → Option KeyMsg
+key_msg_of m =
     if is_device m.device && nat_le m.down 1
     then Some (record { key = record { device = m.device; scan = m.scan; code = m.code; meta = m.meta; down = nat_eq m.down 1 }; flags = m.flags; repeat = m.repeat })
     else None
@@ -50,7 +50,7 @@ key_of m =
 abbrev pub body_of : PlainMessage → Option Body
 body_of m =
     if nat_eq m.kind 0 then option_map MotionBody (motion_of m)
-    else if nat_eq m.kind 1 then option_map Key (key_of m)
+    else if nat_eq m.kind 1 then option_map Key (key_msg_of m)
     else if nat_eq m.kind 2 && nat_le m.focus 1 then Some (Focus (nat_eq m.focus 1))
     else None
 
@@ -62,6 +62,6 @@ message_of m = option_and_then (λ t. option_map (λ b. record { seq = m.seq; mo
 abbrev pub args_of : PlainMessage → Option Args
 args_of m =
     if nat_eq m.kind 0 then option_map args.Motion (motion_of m)
-    else if nat_eq m.kind 1 then option_map (λ k. args.Key k.key) (key_of m)
+    else if nat_eq m.kind 1 then option_map (λ k. args.Key k.key) (key_msg_of m)
     else if nat_eq m.kind 3 then option_map args.Reset (device_of m.device)
     else None

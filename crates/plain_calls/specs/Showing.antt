@@ -9,7 +9,7 @@ use Rattle.live_input.specs.declared.refused.WindowsRefused.{WindowsRefused}
 use Rattle.live_input.specs.declared.windows.ClientWindow.{ClientWindow}
 use Rattle.live_input.specs.declared.windows.WindowInfo.{WindowInfo}
 use Rattle.live_input.specs.Answers.{SameClients}
-use Rattle.live_input.specs.Easing.{KeepsNamed}
+use Rattle.live_input.specs.Easing.{KeepsReported}
 use Rattle.live_input.specs.LimitedCalls.{AsksEased, EasedAlone, PutsEased, ReportsChoked, ShowsEased}
 use Rattle.live_input.specs.Showing.{may_ask}
 use Rattle.live_input.specs.Standing.{LiveIs}
@@ -22,7 +22,7 @@ use Rattle.plain_calls.specs.Replies.{window_status, windows_status, named_by}
 pub record Shown (now : ℕ) (windows : List ClientWindow) (old new : Limited) (r : Result (Unit {0}) WindowsRefused) : Type 0 where
   pub after : (ds : List ℕ) (es : List Effect) → LiveIs ds es old.live → ShowsEased ds (latest now old.live) windows es r old new
   pub clients : SameClients old.live new.live
-  pub named : KeepsNamed old.live.named new.live.named
+  pub named : KeepsReported old.live.reported new.live.reported
   pub reports : (ds : List ℕ) (es : List Effect) → LiveIs ds es old.live → ReportsChoked old new
 
 -- nothing changes: neither the service nor the number that a refusal reports
@@ -47,7 +47,7 @@ ShowsRead false windows status now old new before after =
 pub record Replaced (now : ℕ) (client : Client) (info : WindowInfo) (old new : Limited) (r : Result (Unit {0}) WindowRefused) : Type 0 where
   pub after : (ds : List ℕ) (es : List Effect) → LiveIs ds es old.live → PutsEased ds (latest now old.live) client info es r old new
   pub clients : SameClients old.live new.live
-  pub named : KeepsNamed old.live.named new.live.named
+  pub named : KeepsReported old.live.reported new.live.reported
   pub reports : (ds : List ℕ) (es : List Effect) → LiveIs ds es old.live → ReportsChoked old new
 
 -- The result of one window in plain numbers, by whether memory ran out. If it did, the service stays as it was, or
@@ -63,5 +63,5 @@ pub record Asked (now display : ℕ) (client : Option Client) (old new : Limited
   pub after : (ds : List ℕ) (es : List Effect) → LiveIs ds es old.live → AsksEased ds (latest now old.live) display client es r old new
   pub stale : may_ask old.live.seats client ≡ false → (r ≡ Err NotOpen) × (new ≡ old)
   pub clients : SameClients old.live new.live
-  pub named : KeepsNamed old.live.named new.live.named
+  pub named : KeepsReported old.live.reported new.live.reported
   pub reports : (ds : List ℕ) (es : List Effect) → LiveIs ds es old.live → ReportsChoked old new

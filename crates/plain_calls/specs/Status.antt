@@ -2,8 +2,8 @@
 use Rattle.std.specs.Prelude.{ℕ}
 
 -- the call succeeded
-abbrev pub is_ok : ℕ
-is_ok = 0
+abbrev pub status_ok : ℕ
+status_ok = 0
 
 -- the handle is free
 abbrev pub is_free : ℕ

@@ -19,4 +19,4 @@ pub record FinishedThrough (now : ℕ) (client : Client) (seq : ℕ) (old new : 
       (ds : List ℕ) (es : List Effect) → LiveIs ds es old.live → is_open old.live.seats client ≡ true
       → FinishesThrough ds (latest now old.live) client.channel (number_of (seat_of old.live.seats client.channel) seq) es r old.live new.live
   pub clients : SameClients old.live new.live
-  pub named : new.live.named ≡ old.live.named
+  pub named : new.live.reported ≡ old.live.reported

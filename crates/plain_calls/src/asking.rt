@@ -4,7 +4,7 @@ ghost use Rattle.plain_calls.specs.Asking.{HasFocus, GetsKeys, Responds, Holds, 
 ghost use Rattle.plain_calls.specs.Calling.{Reads, Replies, answer_status, written};
 ghost use Rattle.plain_calls.specs.Clients.{client_of, plain_client};
 ghost use Rattle.plain_calls.specs.Numbers.{device_of, display_of, flag};
-ghost use Rattle.plain_calls.specs.Status.{is_ok};
+ghost use Rattle.plain_calls.specs.Status.{status_ok};
 
 use crate::client::{PlainClient, answer_client, plain_client};
 use crate::numbers::{device_of, display_of, flag};
@@ -41,7 +41,7 @@ pub fn is_responsive(live: &Live, client: &PlainClient) -> u8
 /// The ids of the pointers of a device that a client holds, as bits.
 pub fn holds(live: &Live, client: &PlainClient, device: u8, ids: &mut u32) -> u32
     ensures { Reads (device_of device) result (ids.new ≡ ids.old)
-        (λ d. (result ≡ is_ok) × Holds live.now (client_of client.now) d ids.new) }
+        (λ d. (result ≡ status_ok) × Holds live.now (client_of client.now) d ids.new) }
 {
     let Some(device) = device_of(device) else {
         return RANGE;

@@ -18,7 +18,6 @@
 #![tactic(auto)]
 
 pub mod asking;
-pub mod choking;
 mod client;
 pub mod clients;
 pub mod driving;
@@ -27,6 +26,7 @@ pub mod giving;
 pub mod keys_down;
 pub mod laws;
 mod layouts;
+pub mod limited;
 mod message;
 pub mod messages;
 pub mod next_any;
@@ -34,7 +34,6 @@ mod numbers;
 mod options;
 pub mod plugging;
 mod pointers;
-pub mod pointing;
 mod repeats;
 mod replies;
 mod screens;
@@ -42,6 +41,7 @@ pub mod showing;
 pub mod status;
 pub mod through;
 mod told;
+pub mod window_at;
 mod windows;
 
 pub use client::PlainClient;

@@ -48,7 +48,7 @@ pub struct PlainMessage {
 }
 
 impl PlainMessage {
-    ghost use Rattle.plain_calls.specs.Plain.{message_of, args_of, body_of, motion_of, key_of};
+    ghost use Rattle.plain_calls.specs.Plain.{message_of, args_of, body_of, motion_of, key_msg_of};
 
     /// The message; None if a number is out of its range.
     pub fn read(&self) -> Option<Message>
@@ -113,7 +113,7 @@ impl PlainMessage {
     }
 
     fn key(&self) -> Option<KeyMsg>
-        ensures { result ≡ key_of self.now }
+        ensures { result ≡ key_msg_of self.now }
     {
         if !is_device(self.device) || self.down > 1 {
             return None;

@@ -5,7 +5,7 @@ use Rattle.outside_io.specs.Outside.{Entry}
 use Rattle.command_words.specs.Command.{Command, race}
 use Rattle.command_words.specs.Forms.{form_of}
 use Rattle.replay_engine.specs.Outcome.{Ends, asked, sink_ends}
-use Rattle.plain_calls.specs.Status.{is_ok, no_room, no_threads}
+use Rattle.plain_calls.specs.Status.{status_ok, no_room, no_threads}
 use Rattle.plain_run.specs.declared.lent.Lent.{Lent}
 use Rattle.plain_run.specs.declared.ran.PlainRan.{PlainRan}
 
@@ -68,7 +68,7 @@ pub record Ran (words : List (List ℕ)) (files : List Entry) (status : ℕ) (be
   pub runs : RunsTo words files text line after.ran.status
   pub out : Fills text before.out after.out after.ran.out_len
   pub err : Fills line before.err after.err after.ran.err_len
-  pub room : status ≡ (if had_room after then is_ok else no_room)
+  pub room : status ≡ (if had_room after then status_ok else no_room)
 
 -- the words of `race` are refused and change nothing, and others run
 abbrev pub RunsAlone : (race : Bool) → List (List ℕ) → List Entry → ℕ → (before after : Places) → Type 0

@@ -21,9 +21,9 @@ IsCause (Some error) = Unit {0}
 IsCause None = Unit {0}
 
 -- the refusal, where a line was refused; else the number of the line that has begun, and its bytes
-abbrev pub place_of : ℕ → List ℕ → Option LineError → Place
-place_of n kept None = Ok (n, kept)
-place_of n kept (Some error) = Err error
+abbrev pub place_now : ℕ → List ℕ → Option LineError → Place
+place_now n kept None = Ok (n, kept)
+place_now n kept (Some error) = Err error
 
 -- events that were sent before
 abbrev pub behind : List RawEvent → Told → Told

@@ -25,12 +25,12 @@ pub struct LineReader {
 impl Model for LineReader {
     ghost use Rattle.raw_events.specs.Line.{known};
     ghost use Rattle.raw_events.specs.Pieces.{Reader};
-    ghost use Rattle.raw_events.specs.Kept.{place_of, IsKept, IsCause};
+    ghost use Rattle.raw_events.specs.Kept.{place_now, IsKept, IsCause};
     ghost use Rattle.std.specs.Prelude.{vec_capacity};
 
     ghost Value = { Reader };
 
-    ghost view = { λ r. record { devices = known r.devices.items; place = place_of r.number r.kept.items r.refusal } };
+    ghost view = { λ r. record { devices = known r.devices.items; place = place_now r.number r.kept.items r.refusal } };
 
     ghost invariant = { λ r. IsKept r.kept.items (vec_capacity r.kept) × IsCause r.refusal };
 }

@@ -1,16 +1,17 @@
 //! What is counted of the events of every device.
 ghost use Rattle.std.specs.Prelude.{◌≡◌, ◌∷◌, [], Bool, List};
 ghost use Rattle.raw_events.specs.declared.event.RawEvent.{RawEvent as Event};
-ghost use Rattle.raw_events.specs.Packets.{is_drop as drops, is_void};
+ghost use Rattle.raw_events.specs.Packets.{is_void};
 ghost use Rattle.device_reader.specs.SlotAccumulator.SlotValues.{is_abs};
 ghost use Rattle.recording_counts.specs.Events.{event_counts, is_touch_used, is_keys_used};
 
 use crate::number::risen_if;
+use device_reader::is_drop;
 use device_reader::slot_accumulator::is_report;
 use raw_events::RawEvent;
 use raw_events::codes::{
     ABS_MT_POSITION_X, ABS_MT_POSITION_Y, ABS_MT_SLOT, ABS_MT_TOOL_TYPE, ABS_MT_TRACKING_ID,
-    EV_ABS, EV_KEY, EV_SYN, SYN_DROPPED,
+    EV_ABS, EV_KEY,
 };
 
 /// How many events a device has, how many of them its reader looks at, how many a drop makes void, and how many
@@ -55,14 +56,6 @@ pub(crate) fn is_abs(event: &RawEvent, code: u16) -> bool
     ensures { result ≡ is_abs code event.now }
 {
     event.kind == EV_ABS && event.code == code
-}
-
-/// Whether an event says that events were lost.
-#[inline(always)]
-pub(crate) fn is_drop(event: &RawEvent) -> bool
-    ensures { result ≡ drops event.now }
-{
-    event.kind == EV_SYN && event.code == SYN_DROPPED
 }
 
 /// Whether a reader of a touch device looks at an event.

@@ -11,8 +11,9 @@ ghost use Rattle.device_reader.specs.Packets.{key_event};
 ghost use Rattle.recording_counts.specs.Events.{event_counts, is_keys_used as keys_used};
 ghost use Rattle.recording_counts.specs.KeyTally.{KeysTallyStandsFor, goes_down, is_down_at, is_unnamed, key_counts};
 
-use crate::events::{EventCounts, is_drop, is_keys_used};
+use crate::events::{EventCounts, is_keys_used};
 use crate::number::risen_if;
+use device_reader::is_drop;
 use device_reader::slot_accumulator::is_report;
 use input_types::Args;
 use raw_events::RawEvent;

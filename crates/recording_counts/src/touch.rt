@@ -11,8 +11,9 @@ ghost use Rattle.recording_counts.specs.Touch.{is_outside, packet_at, palms as p
 ghost use Rattle.recording_counts.specs.Touch.{ranges_of, touch_counts};
 ghost use Rattle.recording_counts.specs.Events.{event_counts, is_touch_used as touch_used};
 
-use crate::events::{EventCounts, is_abs, is_drop, is_touch_used};
+use crate::events::{EventCounts, is_abs, is_touch_used};
 use crate::number::{greater, risen_if};
+use device_reader::is_drop;
 use device_reader::pointer_ids::{Assigned, Ids};
 use device_reader::slot_accumulator::{Contact, Contacts, Slots, is_report};
 use input_types::Axis;

@@ -15,7 +15,7 @@ use Rattle.dispatch_calls.specs.declared.reply.Reply.TheVariants.{Dispatched, Re
 use Rattle.dispatch_history.specs.History.{History, clock, live, received, repeats_of}
 use Rattle.dispatch_history.specs.Queue.{inbound, accepted, dispatches}
 use Rattle.dispatch_history.specs.Delivery.{able, published}
-use Rattle.dispatch_history.specs.Effect.{Effect, past_of, stream, sent_on}
+use Rattle.dispatch_history.specs.Effect.{past_of, stream, sent_on}
 use Rattle.dispatch_history.specs.Effects.{effects}
 use Rattle.dispatch_history.specs.Focus.{is_target}
 use Rattle.dispatch_history.specs.Keys.{loses_all, keys, same_key}

@@ -22,7 +22,7 @@ use Rattle.replay_actors.specs.Lanes.{Own, calls_made}
 use Rattle.replay_actors.specs.Raced.{OnlyOpens, is_opening}
 use Rattle.replay_actors.proofs.Firsts.{begun}
 use Rattle.replay_actors.specs.Seats.{Known}
-use Rattle.replay_actors.specs.Opening.{IsCaller, Opens}
+use Rattle.replay_actors.specs.Opening.{IsCaller, OpensOne}
 use Rattle.replay_actors.specs.Session.{channel_of}
 use Rattle.replay_actors.proofs.OwnCalls.{reversed, taken_next}
 
@@ -33,7 +33,7 @@ opening_by terms n false is below = absurd (grind (arith, nat_tests))
 
 -- an answered open is one channel more
 pub opens_one : (v w : Known) (terms : Terms) (p : Placed Reply) → IsCaller v → OnlyOpens v.mine.own → length v.mine.own < 64
-    → Answers IsLegal v (Open terms) (Ok p) w → Opens terms v w
+    → Answers IsLegal v (Open terms) (Ok p) w → OpensOne terms v w
 opens_one v w terms p caller only few a =
     let follows = a.2 in
     let past : a.1 ≡ of_zero v.mine.own = follows.alone caller.number caller.made in
@@ -60,7 +60,7 @@ all_planned repeats (c ∷ cs) = ap (λ ps. planned repeats c ∷ ps) (all_plann
 
 -- the opens so far
 pub opens_next : (repeats : Option Repeats) (v w : Known) (channels : List ChannelPlan) (i : ℕ) (c : ChannelPlan) → i < length channels → c ≡ slice_index_or channels i c
-    → Opens (record { limit = c.limit; repeats = repeats }) v w
+    → OpensOne (record { limit = c.limit; repeats = repeats }) v w
     → calls_made v.mine.own ≡ reverse (opens (map (channel_of repeats) (map channel_view (take i channels))))
     → calls_made w.mine.own ≡ reverse (opens (map (channel_of repeats) (map channel_view (take (i + 1) channels))))
 opens_next repeats v w channels i c below at one so_far =

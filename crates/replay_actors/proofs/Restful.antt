@@ -31,10 +31,10 @@ cancelled now t (k ∷ ks) last =
 sent_cancels : (call : Call) (answer : Reply) (es : List Effect) (w : ℕ) → args_of call answer (inbound (past_of es)) ≡ None
     → repeat_by ((call, answer) ∷ past_of es) (last_key es) w ≡ [] → (ks : List KeyArgs) × (key_messages call answer es w ≡ map key_cancelled ks)
 sent_cancels call answer es w no_args no_repeat =
-    let hears = is_target (past_of es) w && able es w in
+    let gets = is_target (past_of es) w && able es w in
     let loses = loses_all ((call, answer) ∷ past_of es) (past_of es) w in (
       cond loses (keys es w) (filter (ends None) (keys es w)),
-      ap₂ (λ o ms. keys_sent o hears loses (keys es w) ++ ms) no_args no_repeat ∙ nothing (keys_sent None hears loses (keys es w)),
+      ap₂ (λ o ms. keys_sent o gets loses (keys es w) ++ ms) no_args no_repeat ∙ nothing (keys_sent None gets loses (keys es w)),
     )
   where
     nothing : (ms : List KeyMsg) → ms ++ [] ≡ ms

@@ -1,5 +1,5 @@
 -- The caller of a race, who opens its channels.
-use Rattle.std.specs.Prelude.{◌≡◌, ℕ, ◌+◌, ◌<◌, List, ◌∷◌, Option, length, map, reverse, take}
+use Rattle.std.specs.Prelude.{◌≡◌, ◌+◌, ◌<◌, List, ◌∷◌, Option, length, map, reverse, take}
 use Rattle.key_repeat.specs.declared.delays.Repeats.{Repeats}
 use Rattle.dispatch_calls.specs.declared.call.Call.TheVariants.{Open}
 use Rattle.dispatch_calls.specs.declared.terms.Terms.{Terms}
@@ -17,7 +17,7 @@ pub record IsCaller (v : Known) : Type 0 where
   pub made : v.mine.made ≡ 0
 
 -- one channel more was opened, on these terms
-pub record Opens (terms : Terms) (v w : Known) : Type 0 where
+pub record OpensOne (terms : Terms) (v w : Known) : Type 0 where
   pub only : OnlyOpens w.mine.own
   pub calls : calls_made w.mine.own ≡ Open terms ∷ calls_made v.mine.own
   pub one : length w.mine.own ≡ length v.mine.own + 1

@@ -6,7 +6,7 @@ ghost use Rattle.session_plan.specs.View.{channel_view};
 ghost use Rattle.input_service.specs.Services.{IsOf};
 ghost use Rattle.replay_actors.specs.Lanes.{calls_made};
 ghost use Rattle.replay_actors.specs.Raced.{OnlyOpens};
-ghost use Rattle.replay_actors.specs.Opening.{IsCaller, Opens, OpensFront};
+ghost use Rattle.replay_actors.specs.Opening.{IsCaller, OpensOne, OpensFront};
 ghost use Rattle.replay_actors.specs.Session.{channel_of};
 
 use dispatch_calls::{Call, Terms};
@@ -39,7 +39,7 @@ fn open_one<R: Wait>(
     ensures of { IsOf service.now seat.new }
     ensures caller { IsCaller (view seat.new) }
     ensures setup { (view seat.new).setup ≡ (view seat.old).setup }
-    ensures opened { OnOk result (Opens terms (view seat.old) (view seat.new)) }
+    ensures opened { OnOk result (OpensOne terms (view seat.old) (view seat.new)) }
     ensures err { OnErr result ((view seat.new).mine.own ≡ (view seat.old).mine.own) }
 {
     service.call(rt, seat, Call::Open { terms })?;
@@ -65,8 +65,8 @@ pub fn open_channels<R: Wait>(
     ensures setup { (view seat.new).setup ≡ (view seat.old).setup }
     ensures opened { OnOk result (OnlyOpens (view seat.new).mine.own) }
     ensures each { OnOk result (length (view seat.new).mine.own ≡ length channels.now) }
-    ensures calls { OnOk result
-        (calls_made (view seat.new).mine.own ≡ reverse (opens (map (channel_of repeats) (map channel_view channels.now)))) }
+    ensures calls { OnOk result (calls_made (view seat.new).mine.own
+        ≡ reverse (opens (map (channel_of repeats) (map channel_view channels.now)))) }
     ensures err { OnErr result (OpensFront repeats channels.now (view seat.new)) }
 {
     'channels: for channel in channels {

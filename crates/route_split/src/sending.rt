@@ -19,7 +19,7 @@ use crate::sends::Sends;
 use crate::sets::{has_id, lost_of};
 use bits32::Bits32;
 use input_types::{DeviceId, Motion, MotionAction, Pointer, PointerId, Pointers, PushRefused};
-use split_motion::{part, plain, split};
+use split_motion::{is_up, part, plain, split};
 
 /// What a window is sent for a motion with which it goes from holding one set to holding another.
 pub(crate) fn sends_of(motion: &Motion, before: Bits32, later: Bits32, watches: bool) -> Sends
@@ -196,16 +196,6 @@ fn as_down(motion: &Motion) -> Motion
         index: motion.index,
         flags: motion.flags,
         pointers: motion.pointers,
-    }
-}
-
-/// Whether a pointer goes up with the action.
-fn is_up(action: MotionAction) -> bool
-    ensures { result ≡ is_up action }
-{
-    match action {
-        MotionAction::Up | MotionAction::PointerUp | MotionAction::Cancel => true,
-        _ => false,
     }
 }
 

@@ -25,7 +25,7 @@ use Rattle.schedule.proofs.Finishes.{all_first}
 use Rattle.schedule.proofs.Fitting.{Fits, OpensNone, back_late, both_late, finishes_late, fit_chosen, front_late, soonest_late}
 use Rattle.schedule.proofs.Opening.{Fresh, fresh_begun, fresh_caught}
 use Rattle.schedule.proofs.Soonest.{NoneSooner, soonest_up_to}
-use Rattle.schedule.proofs.Timely.{Timely, AllTimely, Kept, kept_round}
+use Rattle.schedule.proofs.Timely.{Timely, AllTimely, BetweenRounds, kept_round}
 
 -- candidates of the numbers 1 to n
 one_more : (f : ℕ → Candidate) (p : ℕ → Bool) (n : ℕ) → map f (filter p (channels (suc n))) ≡ map f (filter p (channels n)) ++ map f (filter p (suc n ∷ []))
@@ -115,7 +115,7 @@ chosen_soonest t (Some b) c e = by_test (nat_le b.moment t) e
     by_test true f = f
     by_test false f = absurd (cc f)
 
-going : (plan : Plan) (es : List Effect) → length plan.channels ≤ 64 → OpensNone plan.steps → Rounds plan es → Kept plan.displays plan.channels es
+going : (plan : Plan) (es : List Effect) → length plan.channels ≤ 64 → OpensNone plan.steps → Rounds plan es → BetweenRounds plan.displays plan.channels es
 going plan es few steps start =
     let f = fresh_begun plan few in
     record {
@@ -129,7 +129,7 @@ going plan es few steps (next {es = before} {c = c} r e) =
     chosen_soonest (end_of plan) (soonest (candidates plan before)) c (sym (soonest_up_to (end_of plan) (candidates plan before)) ∙ e) in
     let fits : Fits c = fit_chosen plan before c steps is in
     let late : AllTimely c.moment before 1 plan.channels = all_timely c.moment before k.caught 1 plan.channels (finishes_late plan before c is) in
-    subst (λ calls. Kept plan.displays plan.channels (received_all plan.displays (extend plan.displays before calls))) (sym fits.calls_are)
+    subst (λ calls. BetweenRounds plan.displays plan.channels (received_all plan.displays (extend plan.displays before calls))) (sym fits.calls_are)
     (kept_round plan.displays plan.channels before fits.call fits.more fits.opens_not fits.calm
     (subst (λ t. AllTimely t before 1 plan.channels) (sym fits.moment_is) late) k)
 

@@ -127,14 +127,14 @@ calm_receives es (c ∷ ns) =
     (calm_receives es ns)
 
 -- what is between two rounds
-pub record Kept (ds : List ℕ) (ps : List ChannelOf) (es : List Effect) : Type 0 where
+pub record BetweenRounds (ds : List ℕ) (ps : List ChannelOf) (es : List Effect) : Type 0 where
   pub lawful : Lawful ds es
   pub caught : Caught es
   pub timely : AllTimely (clock (past_of es)) es 1 ps
 
 -- the first call of a round, at a moment before which nothing is due
 first_amid : (ds : List ℕ) (ps : List ChannelOf) (es : List Effect) (call : Call) → is_opening call ≡ false → AllTimely (moment_of call) es 1 ps
-    → Kept ds ps es → Amid ds ps (answered ds call es)
+    → BetweenRounds ds ps es → Amid ds ps (answered ds call es)
 first_amid ds ps es call never first h =
     let l : Lawful ds (step ds call (reply_to es call) es) = lawful_step ds call (reply_to es call) es h.lawful refl in
     record {
@@ -147,14 +147,14 @@ first_amid ds ps es call never first h =
     }
 
 -- and then all that is published is received
-pub kept_again : (ds : List ℕ) (ps : List ChannelOf) (es : List Effect) → Amid ds ps es → Kept ds ps (received_all ds es)
+pub kept_again : (ds : List ℕ) (ps : List ChannelOf) (es : List Effect) → Amid ds ps es → BetweenRounds ds ps (received_all ds es)
 kept_again ds ps es h =
     let all = calm_calls ds ps 0 es (receives es) (calm_receives es (channels (opened (past_of es)))) (omega arith) h in
     record { lawful = all.lawful; caught = caught_after ds es h.lawful h.behind; timely = all.timely }
 
 -- a round of a call, and of some more at its moment
 pub kept_round : (ds : List ℕ) (ps : List ChannelOf) (es : List Effect) (call : Call) (calls : List Call) → is_opening call ≡ false
-    → AllCalm (moment_of call) calls → AllTimely (moment_of call) es 1 ps → Kept ds ps es → Kept ds ps (received_all ds (extend ds es (call ∷ calls)))
+    → AllCalm (moment_of call) calls → AllTimely (moment_of call) es 1 ps → BetweenRounds ds ps es → BetweenRounds ds ps (received_all ds (extend ds es (call ∷ calls)))
 kept_round ds ps es call calls never calm first h =
     kept_again ds ps (extend ds (answered ds call es) calls)
     (calm_calls ds ps (moment_of call) (answered ds call es) calls calm (omega arith) (first_amid ds ps es call never first h))

@@ -31,7 +31,7 @@ impl Schedule {
         }
         let left = drain_left(&mut self.streams, &self.dispatcher, channel)?;
         self.messages = self.messages.saturating_add(left);
-        self.dispatcher.let_all_go(channel);
+        self.dispatcher.release_all(channel);
         Ok(())
     }
 
@@ -52,7 +52,7 @@ impl Schedule {
         }
         let left = drain_left(&mut self.streams, &self.dispatcher, channel)?;
         self.messages = self.messages.saturating_add(left);
-        self.dispatcher.let_each_go(channel);
+        self.dispatcher.release_each(channel);
         Ok(())
     }
 

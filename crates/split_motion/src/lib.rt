@@ -20,4 +20,4 @@ mod listed;
 mod window;
 
 pub use listed::{about, part, part_but, plain};
-pub use window::split;
+pub use window::{is_up, split};

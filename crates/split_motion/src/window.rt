@@ -80,7 +80,7 @@ fn closing(device: DeviceId, id: PointerId, cancelled: bool, pointers: Pointers)
 }
 
 /// Whether a pointer goes up with the action.
-fn is_up(action: MotionAction) -> bool
+pub fn is_up(action: MotionAction) -> bool
     ensures { result ≡ is_up action }
 {
     match action {

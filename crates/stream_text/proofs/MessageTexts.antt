@@ -11,7 +11,7 @@ use Rattle.input_types.specs.declared.message.Body.TheVariants.{Motion as Motion
 use Rattle.input_types.specs.declared.message.Message.{Message}
 use Rattle.stream_text.specs.Number.{◌>>=◌, after, number_at, NoDigit}
 use Rattle.stream_text.specs.Spelling.{body, canceled, key, key_end, labeled, numbered}
-use Rattle.stream_text.specs.MessageLine.{body_of, codes_at, device_at, canceled_at, focus_of, key_of, labeled_at, message_of, message_words, motion_of, way_at, way_by, HasKeyFlag, HasSpelling, SpelledBody, SpelledKey}
+use Rattle.stream_text.specs.MessageLine.{body_of, codes_at, device_at, canceled_at, focus_of, key_read, labeled_at, message_of, message_words, motion_of, way_at, way_by, HasKeyFlag, HasSpelling, SpelledBody, SpelledKey}
 use Rattle.stream_text.proofs.Numbers.{after_only, bind_some, number_again, number_only}
 use Rattle.stream_text.proofs.PartTexts.{labeled_again, labeled_only, device_again, device_only, canceled_again, canceled_only, by_word, whole_only, labeled_front, regroup}
 use Rattle.stream_text.proofs.MotionTexts.{motion_text, motion_again, motion_only}
@@ -103,14 +103,14 @@ way_no_digit : (down : Bool) (flags : ℕ) (rest : List ℕ) → NoDigit (way_wo
 way_no_digit true flags rest = refl
 way_no_digit false flags rest = refl
 
-key_again : (m : KeyMsg) → SpelledKey m → key_of (key_words m) ≡ Some m
-unfolding key_of
+key_again : (m : KeyMsg) → SpelledKey m → key_read (key_words m) ≡ Some m
+unfolding key_read
 key_again m h =
     let way = way_words m.key.down m.flags (decimal m.repeat) in
     rw (device_again m.key.device (codes " " ++ (decimal m.key.scan ++ (codes " " ++ (decimal m.key.code ++ (codes " " ++ (decimal m.key.meta ++ way)))))) h.device.0 h.device.1 refl, codes_again m.key.scan m.key.code m.key.meta way h.scan h.code h.meta (way_no_digit m.key.down m.flags (decimal m.repeat)), way_again m.key.down m.flags m.repeat h.flags (omega (arith, h.repeat)), number_alone (2 ^ 32 - 1) m.repeat (omega (arith, h.repeat)) (omega arith)) refl
 
-key_only : (bs : List ℕ) (m : KeyMsg) → key_of bs ≡ Some m → (bs ≡ key_words m) × SpelledKey m
-unfolding key_of
+key_only : (bs : List ℕ) (m : KeyMsg) → key_read bs ≡ Some m → (bs ≡ key_words m) × SpelledKey m
+unfolding key_read
 key_only bs m h =
     let (device, found_device, h1) = bind_some (device_at bs) _ m h in
     let (key, found_key, h2) = bind_some (codes_at device.1) _ m h1 in
@@ -180,9 +180,9 @@ motion_body bs rest b found h =
     let (text, spelled) = motion_only rest m read in
     subst (Spells bs) (same_Some (MotionBody m) b made) (after_only (codes "motion ") bs rest found ∙ text, spelled)
 
-key_body : (bs rest : List ℕ) (b : Body) → after (codes "key ") bs ≡ Some rest → (key_of rest >>= λ m. Some (Key m)) ≡ Some b → Spells bs b
+key_body : (bs rest : List ℕ) (b : Body) → after (codes "key ") bs ≡ Some rest → (key_read rest >>= λ m. Some (Key m)) ≡ Some b → Spells bs b
 key_body bs rest b found h =
-    let (m, read, made) = bind_some (key_of rest) _ b h in
+    let (m, read, made) = bind_some (key_read rest) _ b h in
     let (text, spelled) = key_only rest m read in
     subst (Spells bs) (same_Some (Key m) b made) (after_only (codes "key ") bs rest found ∙ ap (λ t. codes "key " ++ t) text ∙ sym (key_text m), spelled)
 

@@ -6,7 +6,7 @@ use Rattle.input_types.specs.declared.message.Body.TheVariants.{Motion, Focus}
 use Rattle.stream_text.specs.Number.{integer_at, negative_at, number_at, positive_at}
 use Rattle.stream_text.specs.Order.{finish_line, number_alone}
 use Rattle.stream_text.specs.OrderText.{head_of}
-use Rattle.stream_text.specs.MessageLine.{action_at, body_of, codes_at, device_at, flag_at, flags_at, focus_of, indexed_at, key_of, labeled_at, message_of, motion_of, pointer_at, pointers_at, way_at}
+use Rattle.stream_text.specs.MessageLine.{action_at, body_of, codes_at, device_at, flag_at, flags_at, focus_of, indexed_at, key_read, labeled_at, message_of, motion_of, pointer_at, pointers_at, way_at}
 use Rattle.stream_text.specs.StreamLine.{channel_at, channel_of, end_of, line_of, anr_of}
 use Rattle.stream_text.specs.StreamFile.{Stream, events_of, streams_in}
 
@@ -28,7 +28,7 @@ pub two_downs : streams_in (events_of (codes "channel 1 main\n1 0 motion 1 DOWN 
           ∷ [];
     }
     ∷ [])
-unfolding events_of head_of number_alone line_of channel_of channel_at end_of anr_of message_of body_of motion_of key_of focus_of device_at action_at indexed_at flag_at flags_at pointer_at pointers_at labeled_at number_at integer_at negative_at positive_at codes_at way_at
+unfolding events_of head_of number_alone line_of channel_of channel_at end_of anr_of message_of body_of motion_of key_read focus_of device_at action_at indexed_at flag_at flags_at pointer_at pointers_at labeled_at number_at integer_at negative_at positive_at codes_at way_at
 two_downs = refl
 
 -- an order in front, a section without messages twice, and an ANR
@@ -89,7 +89,7 @@ pub bad_lines : list_all (λ line. is_none (line_of line))
     ∷ []
     ∷ [])
     ≡ true
-unfolding line_of channel_of channel_at end_of anr_of message_of body_of motion_of key_of focus_of device_at action_at indexed_at flag_at flags_at pointer_at pointers_at labeled_at number_at integer_at negative_at positive_at codes_at way_at
+unfolding line_of channel_of channel_at end_of anr_of message_of body_of motion_of key_read focus_of device_at action_at indexed_at flag_at flags_at pointer_at pointers_at labeled_at number_at integer_at negative_at positive_at codes_at way_at
 bad_lines = refl
 
 -- the number of the first bad line, and 0 for a file that has none
@@ -155,5 +155,5 @@ pub canceled_anywhere : list_all (λ line. is_some (line_of line))
     (codes "1 0 motion 1 DOWN canceled 0@1,1" ∷ codes "1 0 motion 1 POINTER_UP:0 canceled partly 0@1,1 1@2,2"
     ∷ codes "1 0 motion 1 OUTSIDE obscured partly 0@1,1" ∷ codes "1 0 key 1 0 0 0 UP canceled 0" ∷ [])
     ≡ true
-unfolding line_of channel_of channel_at end_of anr_of message_of body_of motion_of key_of focus_of device_at action_at indexed_at flag_at flags_at pointer_at pointers_at labeled_at number_at integer_at negative_at positive_at codes_at way_at
+unfolding line_of channel_of channel_at end_of anr_of message_of body_of motion_of key_read focus_of device_at action_at indexed_at flag_at flags_at pointer_at pointers_at labeled_at number_at integer_at negative_at positive_at codes_at way_at
 canceled_anywhere = refl

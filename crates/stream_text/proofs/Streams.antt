@@ -7,7 +7,7 @@ use Rattle.stream_text.specs.declared.stream_line.StreamLine.TheVariants.{Channe
 use Rattle.stream_text.specs.declared.stream_error.StreamError.{StreamError}
 use Rattle.stream_text.specs.declared.stream_error.StreamError.TheVariants.{BadLine, Memory}
 use Rattle.stream_text.specs.StreamFile.{Event, Goes, Stream, Unread, streams_in, streams_of, messages_of, with_event}
-use Rattle.stream_text.specs.StreamAnswer.{Begins, Finds, behind, channel_sent, message_sent, opened, pending, with_stream}
+use Rattle.stream_text.specs.StreamAnswer.{ReadsSection, Finds, behind, channel_sent, message_sent, opened, pending, with_stream}
 
 -- a line that was found, and what is left
 pub goes_behind : (old : Unread) (line : Option Event) (new : Unread) → Goes old (Ok line) new → (old.events ≡ behind line new.events) × (new.left + pending line ≤ old.left)
@@ -62,7 +62,7 @@ opened_bad id first bad (Ok events) e = cc e
 opened_bad id first bad (Err other) e = cc e
 
 pub begins_bad : (old here new : Result (List Event) ℕ) (front : List Told) (error : StreamError) → Finds here (Err error) new
-    → ((id first : ℕ) → opened id first front here ≡ opened id first [] old) → Begins old (Err error) new
+    → ((id first : ℕ) → opened id first front here ≡ opened id first [] old) → ReadsSection old (Err error) new
 begins_bad old here new front Memory h same = absurd h
 begins_bad old here new front (BadLine bad) h same = opened_bad 0 0 bad old (sym (same 0 0) ∙ ap (opened 0 0 front) h)
 

@@ -122,8 +122,8 @@ codes_at bs = do
   Some (scan.0, code.0, meta.0, meta.1)
 
 -- behind `key `: what is said of a key
-unfoldable pub key_of : List ℕ → Option KeyMsg
-key_of bs = do
+unfoldable pub key_read : List ℕ → Option KeyMsg
+key_read bs = do
   device ← device_at bs
   key ← codes_at device.1
   way ← way_at key.3
@@ -140,7 +140,7 @@ focus_of bs = do
 unfoldable pub body_of : List ℕ → Option Body
 body_of bs =
     chosen_by (after (codes "motion ") bs) (λ rest. motion_of rest >>= λ m. Some (MotionBody m))
-    (chosen_by (after (codes "key ") bs) (λ rest. key_of rest >>= λ m. Some (Key m))
+    (chosen_by (after (codes "key ") bs) (λ rest. key_read rest >>= λ m. Some (Key m))
     (chosen_by (after (codes "focus ") bs) (λ rest. focus_of rest >>= λ b. Some (Focus b)) None))
 
 -- a message: its number, its moment, and what it says

@@ -61,8 +61,8 @@ opened id first front (Ok events) = Ok (record { id = id; first_line = first; me
 opened id first front (Err bad) = Err bad
 
 -- what a call that reads a section answers: its messages and the line behind them, or the number of a bad line
-abbrev pub Begins : Result (List Event) ℕ → Result (Vec Told Global × Option Event) StreamError → Result (List Event) ℕ → Type 0
-Begins old (Ok section) new =
+abbrev pub ReadsSection : Result (List Event) ℕ → Result (Vec Told Global × Option Event) StreamError → Result (List Event) ℕ → Type 0
+ReadsSection old (Ok section) new =
     (id first : ℕ) → opened id first [] old ≡ with_stream (record { id = id; first_line = first; messages = section.0.items }) (streams_in (behind section.1 new))
-Begins old (Err Memory) new = Unit {0}
-Begins old (Err (BadLine bad)) new = old ≡ Err bad
+ReadsSection old (Err Memory) new = Unit {0}
+ReadsSection old (Err (BadLine bad)) new = old ≡ Err bad

@@ -5,7 +5,7 @@ use Rattle.std.proofs.lemmas.Bool.{cases_eq, cases_lt, lt-ltb, le-ltb, both_ways
 use Rattle.std.proofs.lemmas.Nat.Bits.{bit_at-zero}
 use Rattle.window_snapshot.specs.Mask.{is_channel, mask_has}
 use Rattle.touch_state.specs.declared.row.Row.{Row}
-use Rattle.touch_state.specs.Rows.{no_row, row_of, sooner, IsLeastSince, Kept}
+use Rattle.touch_state.specs.Rows.{no_row, row_of, sooner, IsLeastSince, AreHolders}
 use Rattle.touch_state.specs.Touches.{Touches, IsEarliest}
 use Rattle.touch_state.proofs.Passes.{row_of-at}
 use Rattle.touch_state.proofs.Sets.{and_false}
@@ -77,7 +77,7 @@ least_whole rows hits k (Some m) le above some = (
 )
 
 -- the windows of a mask that hold something
-hits_are : (t : Touches) (holders among w : ℕ) → Kept t.rows holders t.pilferers
+hits_are : (t : Touches) (holders among w : ℕ) → AreHolders t.rows holders t.pilferers
     → mask_has (bit_and holders among) w ≡ (not ((row_of t.rows w).ids == 0) && mask_has among w)
 hits_are t holders among w k = mask_has-and holders among w ∙ ap (λ b. b && mask_has among w) (k.hold w)
 
@@ -85,7 +85,7 @@ low : (mask w : ℕ) → mask_has mask w ≡ true → w ≤ 64
 low mask w h = leb-true w 64 (and_parts _ _ (and_parts (is_channel w) _ h).0).1
 
 -- where there are none
-pub earliest_none : (t : Touches) (holders among : ℕ) → Kept t.rows holders t.pilferers → IsLeastSince t.rows (bit_and holders among) 64 None
+pub earliest_none : (t : Touches) (holders among : ℕ) → AreHolders t.rows holders t.pilferers → IsLeastSince t.rows (bit_and holders among) 64 None
     → (w : ℕ) → IsTrue (mask_has 0 w) ↔ IsEarliest t among w
 earliest_none t holders among k none w = (
   λ h. absurd (both_ways (mask_has 0 w) (rw (bit_at-zero (w - 1)) (and_false (is_channel w))) h),
@@ -95,7 +95,7 @@ earliest_none t holders among k none w = (
 )
 
 -- those that began at the least index
-pub earliest_some : (t : Touches) (holders among least result : ℕ) → Kept t.rows holders t.pilferers
+pub earliest_some : (t : Touches) (holders among least result : ℕ) → AreHolders t.rows holders t.pilferers
     → IsLeastSince t.rows (bit_and holders among) 64 (Some least)
     → ((w : ℕ) → mask_has result w ≡ (mask_has (bit_and holders among) w && (row_of t.rows w).since == least))
     → (w : ℕ) → IsTrue (mask_has result w) ↔ IsEarliest t among w

@@ -9,7 +9,7 @@ use Rattle.bits32.specs.Set.{is_in}
 use Rattle.bits32.proofs.Members.{is_in_marked}
 use Rattle.window_snapshot.specs.Mask.{is_channel, mask_has, mask_with}
 use Rattle.touch_state.specs.declared.row.Row.{Row}
-use Rattle.touch_state.specs.Rows.{no_row, row_of, after_give, left_with, IsTaken, IsSlipped, Kept}
+use Rattle.touch_state.specs.Rows.{no_row, row_of, after_give, left_with, IsTaken, IsSlipped, AreHolders}
 use Rattle.touch_state.specs.Touches.{Touches, holds, any, since, pilfering, Changes, none, everything, nobody}
 use Rattle.touch_state.proofs.Passes.{noted_one}
 use Rattle.touch_state.proofs.Sets.{and_true, and_false, none_in, marked_some}
@@ -34,7 +34,7 @@ mask_has-and a b w =
 
 -- the tables after a change of the rows
 pub kept_after : (rows : List Row) (holders pilferers : ℕ) → ((w : ℕ) → mask_has holders w ≡ not ((row_of rows w).ids == 0))
-    → Kept rows holders (bit_and pilferers holders)
+    → AreHolders rows holders (bit_and pilferers holders)
 kept_after rows holders pilferers are =
     record {
       hold = are;
@@ -136,7 +136,7 @@ within true a f = rw (f refl) refl
 within false a f = sym (and_false a)
 
 -- a window that pilfers from now on
-pub pilfers_more : (old : Touches) (holders c : ℕ) → Kept old.rows holders old.pilferers → is_channel c ≡ true → any old c ≡ true → (place : ℕ)
+pub pilfers_more : (old : Touches) (holders c : ℕ) → AreHolders old.rows holders old.pilferers → is_channel c ≡ true → any old c ≡ true → (place : ℕ)
     → Changes old (record { device = old.device; rows = old.rows; pilferers = mask_with old.pilferers c }) none none place (λ w. w == c)
 pilfers_more old holders c k channel h place =
     record {
@@ -150,8 +150,8 @@ pilfers_more old holders c k channel h place =
     by_window w (inl e) = rw (ap (any old) e ∙ h, eq-eqb w c e) (or_true (mask_has old.pilferers w))
     by_window w (inr n) = rw (ne_eqb w c n) (within (mask_has old.pilferers w) (any old w) (λ p. sym (k.hold w) ∙ k.pilfer w p))
 
-pub kept_pilferer : (rows : List Row) (holders pilferers c : ℕ) → Kept rows holders pilferers → is_channel c ≡ true → not ((row_of rows c).ids == 0) ≡ true
-    → Kept rows holders (mask_with pilferers c)
+pub kept_pilferer : (rows : List Row) (holders pilferers c : ℕ) → AreHolders rows holders pilferers → is_channel c ≡ true → not ((row_of rows c).ids == 0) ≡ true
+    → AreHolders rows holders (mask_with pilferers c)
 kept_pilferer rows holders pilferers c k channel h =
     record {
       hold = k.hold;
@@ -167,7 +167,7 @@ pub empty_mask : (w : ℕ) → mask_has 0 w ≡ false
 empty_mask w = rw (bit_at-zero (w - 1)) (and_false (is_channel w))
 
 -- tables of nothing
-pub nobody_kept : (rows : List Row) → ((w : ℕ) → (row_of rows w).ids ≡ 0) → Kept rows 0 0
+pub nobody_kept : (rows : List Row) → ((w : ℕ) → (row_of rows w).ids ≡ 0) → AreHolders rows 0 0
 nobody_kept rows none =
     record {
       hold = λ w. none_in_mask w ∙ sym (ap (λ n. not (n == 0)) (none w));

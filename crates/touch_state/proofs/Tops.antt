@@ -6,7 +6,7 @@ use Rattle.std.proofs.lemmas.Nat.{leading_top}
 use Rattle.std.proofs.lemmas.Nat.Bits.{bit_at-zero, bit_at_above}
 use Rattle.window_snapshot.specs.Mask.{is_channel, mask_has}
 use Rattle.touch_state.specs.declared.row.Row.{Row}
-use Rattle.touch_state.specs.Rows.{row_of, IsTaken, Kept}
+use Rattle.touch_state.specs.Rows.{row_of, IsTaken, AreHolders}
 use Rattle.touch_state.proofs.Sets.{and_false, none_in}
 
 pub top_above : (mask w : ℕ) → mask < 2 ^ 64 → 64 - leading_zeros w64 mask < w → mask_has mask w ≡ false
@@ -26,7 +26,7 @@ top_above mask w fits lt =
     no_bit e = ap (λ b. is_channel w && (b == 1)) e ∙ and_false (is_channel w)
 
 -- a window that is not a holder holds nothing
-pub held_none : (rows : List Row) (holders pilferers w : ℕ) → Kept rows holders pilferers → mask_has holders w ≡ false → (row_of rows w).ids ≡ 0
+pub held_none : (rows : List Row) (holders pilferers w : ℕ) → AreHolders rows holders pilferers → mask_has holders w ≡ false → (row_of rows w).ids ≡ 0
 held_none rows holders pilferers w k none =
     elim (cases_Bool ((row_of rows w).ids == 0)) [
       | inl t ↦ eqb-true (row_of rows w).ids 0 t

@@ -32,7 +32,7 @@ IsSlipped from true id place old new = new ≡ after_give true id place old
 IsSlipped from false id place old new = IsTaken (λ i. from && i == id) old new
 
 -- one mask contains the windows that hold something, and the other some of these
-pub record Kept (rows : List Row) (holders pilferers : ℕ) : Type 0 where
+pub record AreHolders (rows : List Row) (holders pilferers : ℕ) : Type 0 where
   pub hold : (w : ℕ) → mask_has holders w ≡ not ((row_of rows w).ids == 0)
   pub pilfer : (w : ℕ) → mask_has pilferers w ≡ true → mask_has holders w ≡ true
 

@@ -30,13 +30,13 @@ pub struct TouchState {
 
 impl Model for TouchState {
     ghost use Rattle.touch_state.specs.Touches.{Touches};
-    ghost use Rattle.touch_state.specs.Rows.{Kept};
+    ghost use Rattle.touch_state.specs.Rows.{AreHolders};
 
     ghost Value = { Touches };
 
     ghost view = { λ t. record { device = t.device; rows = t.rows; pilferers = t.pilferers } };
 
-    ghost invariant = { λ t. Kept t.rows t.holders t.pilferers };
+    ghost invariant = { λ t. AreHolders t.rows t.holders t.pilferers };
 }
 
 impl TouchState {

@@ -57,10 +57,10 @@ with_it k (l ∷ ls) = by_order (is_before k l) (with_it k ls)
     by_order false more = ap (λ b. same_key k l || b) more ∙ or_true (same_key k l)
 
 -- a key that goes down is held by the window that is sent it
-hears_it : (k : KeyArgs) (hears loses : Bool) (p : KeyArgs → Bool) (held : List KeyArgs) → (hears ≡ false → held ≡ [])
-    → list_any (same_key k) (key_given (Some k) hears (cond loses [] (filter p held))) ≡ hears
-hears_it k true loses p held none = with_it k (cond loses [] (filter p held))
-hears_it k false loses p held none = ap (λ ks. list_any (same_key k) (cond loses [] (filter p ks))) (none refl) ∙ by_loss loses
+gets_it : (k : KeyArgs) (gets loses : Bool) (p : KeyArgs → Bool) (held : List KeyArgs) → (gets ≡ false → held ≡ [])
+    → list_any (same_key k) (key_given (Some k) gets (cond loses [] (filter p held))) ≡ gets
+gets_it k true loses p held none = with_it k (cond loses [] (filter p held))
+gets_it k false loses p held none = ap (λ ks. list_any (same_key k) (cond loses [] (filter p ks))) (none refl) ∙ by_loss loses
   where
     by_loss : (b : Bool) → list_any (same_key k) (cond b [] []) ≡ false
     by_loss true = refl
@@ -77,7 +77,7 @@ comes_to_hold ds es x k w l e d =
     (λ g. list_any (same_key k)
     (key_given g (is_target (past_of es) w && able es w) (cond (loses_all x.past (past_of es) w) [] (filter (λ j. not (ends x.args j)) (keys es w)))))
     (down_key k x.args e d)
-    ∙ hears_it k (is_target (past_of es) w && able es w) (loses_all x.past (past_of es) w) (λ j. not (ends x.args j)) (keys es w) (keys_of_target ds es w l)
+    ∙ gets_it k (is_target (past_of es) w && able es w) (loses_all x.past (past_of es) w) (λ j. not (ends x.args j)) (keys es w) (keys_of_target ds es w l)
 
 pub given_is : (ds : List ℕ) (es : List Effect) (x : Effect) (k : KeyArgs) → Lawful ds es → x.args ≡ Some (KeyOfDevice k) → k.down ≡ true
     → first_of (key_holders (x ∷ es) k) ≡ if_able (able es) (key_target (past_of es))

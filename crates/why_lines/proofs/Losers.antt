@@ -5,7 +5,7 @@ use Rattle.std.proofs.lemmas.Bool.{eqb-true, true≢false}
 use Rattle.std.proofs.lemmas.List.Folds.{list_any-append}
 use Rattle.focus_resolver.specs.Resolver.{is_at}
 use Rattle.input_types.specs.declared.key.KeyArgs.{KeyArgs}
-use Rattle.dispatch_history.specs.Delivery.{able, names}
+use Rattle.dispatch_history.specs.Delivery.{able, reports}
 use Rattle.dispatch_history.specs.Effect.{Effect, past_of}
 use Rattle.dispatch_history.specs.Focus.{is_target, key_target}
 use Rattle.dispatch_history.specs.History.{live}
@@ -61,7 +61,7 @@ at_target None w e = absurd (true≢false (sym e))
 at_target (Some t) w e = ap (λ v. Some v) (sym (eqb-true w t e))
 
 -- the key target keeps its keys
-keys_stay : (x : Effect) (es : List Effect) (w : ℕ) → x.args ≡ None → names x.past w ≡ false → is_target x.past w ≡ true → live x.past w ≡ true
+keys_stay : (x : Effect) (es : List Effect) (w : ℕ) → x.args ≡ None → reports x.past w ≡ false → is_target x.past w ≡ true → live x.past w ≡ true
     → keys (x ∷ es) w ≡ keys es w
 keys_stay x es w none unnamed target lives =
     ap
@@ -82,7 +82,7 @@ keys_stay x es w none unnamed target lives =
         ∙ quiet (is_target (past_of es) w)
 
 -- A window loses all its keys where it is not the key target any more, and none else.
-pub keys_lost_are : (ds : List ℕ) (x : Effect) (es : List Effect) (w : ℕ) → Lawful ds (x ∷ es) → x.args ≡ None → names x.past w ≡ false
+pub keys_lost_are : (ds : List ℕ) (x : Effect) (es : List Effect) (w : ℕ) → Lawful ds (x ∷ es) → x.args ≡ None → reports x.past w ≡ false
     → keys_gone w (keys es w) (key_target x.past) ≡ keys_lost x es w
 keys_lost_are ds x es w l none unnamed = by_target (is_at (key_target x.past) w) refl
   where

@@ -9,7 +9,7 @@ use Rattle.std.proofs.lemmas.List.Elements.{filter-append}
 use Rattle.input_types.specs.declared.message.Message.{Message}
 use Rattle.dispatch_calls.specs.declared.call.Call.TheVariants.{Tick}
 use Rattle.dispatch_calls.specs.declared.reply.Reply.{Reply}
-use Rattle.dispatch_history.specs.Delivery.{able, delivery, finishes, has_late, is_named_by, names, oldest, unresponsive}
+use Rattle.dispatch_history.specs.Delivery.{able, delivery, finishes, has_late, is_reported_by, reports, oldest, unresponsive}
 use Rattle.dispatch_history.specs.Effect.{Effect, past_of}
 use Rattle.dispatch_history.specs.Effects.{channels, effect_of, step}
 use Rattle.dispatch_history.specs.History.{clock, limit_of, live}
@@ -79,7 +79,7 @@ pub named_loses : (ds : List ℕ) (es : List Effect) (now w : ℕ) (answer : Rep
 named_loses ds es now w answer l due =
     let x = effect_of ds (Tick now) answer (args_of (Tick now) answer (inbound (past_of es))) es in
     let last = lawful_last ds (Tick now) answer es l in
-    let is_named : names x.past w ≡ true = ap (λ r. is_named_by (Tick now) r w) last.0 ∙ (named_law ds es now last.1).1 w ∙ due in
+    let is_named : reports x.past w ≡ true = ap (λ r. is_reported_by (Tick now) r w) last.0 ∙ (named_law ds es now last.1).1 w ∙ due in
     loses_all ds x es w l
     (ap (λ b. live x.past w && not b)
     (unresponsive_step x es w ∙ ap (λ b. b || (unresponsive es w && not (finishes x.past w && not (has_late (x ∷ es) w)))) is_named)

@@ -2,7 +2,7 @@
 use Rattle.std.specs.Prelude.{◌≡◌, ◌<◌, ◌+◌, ℕ, false, List, [], None, slice_index_or, if◌then◌else◌}
 use Rattle.input_types.specs.declared.key.KeyArgs.{KeyArgs}
 use Rattle.focus_resolver.specs.Resolver.{is_at}
-use Rattle.dispatch_history.specs.Delivery.{names}
+use Rattle.dispatch_history.specs.Delivery.{reports}
 use Rattle.dispatch_history.specs.Effect.{Effect}
 use Rattle.dispatch_history.specs.Keys.{keys}
 use Rattle.why_text.specs.Lost.{holds}
@@ -21,4 +21,4 @@ pub record HoldThis (es : List Effect) (h : Held) : Type 0 where
 -- the step dispatches no args, and names no window unresponsive
 pub record IsQuiet (x : Effect) : Type 0 where
   pub no_args : x.args ≡ None
-  pub unnamed : (w : ℕ) → names x.past w ≡ false
+  pub unnamed : (w : ℕ) → reports x.past w ≡ false

@@ -17,18 +17,18 @@ use Rattle.dispatcher.specs.InputChannel.Order.{NoneAfter, without}
 use Rattle.dispatcher.specs.InputChannel.State.{ChannelState, opened_with, enqueued, each_released, with_spare}
 use Rattle.dispatcher.specs.CancelSynthesis.Tracked.{Tracked, Tracks, pointers_of}
 use Rattle.dispatcher.specs.DispatchChannels.Table.{Table, channel_of, input_of, unsent, but_for_room, NoLessRoom}
-use Rattle.dispatcher.specs.DispatchChannels.Heard.{body_from}
+use Rattle.dispatcher.specs.DispatchChannels.FromOrigin.{body_from}
 use Rattle.dispatcher.specs.DispatchChannels.Changes.{Sends, SendsPast}
 use Rattle.dispatch_history.specs.History.{no_terms}
 
 -- a channel and what its window was sent, once both have one thing more
-pub sends : (t : Table) (c : ℕ) (body heard : Body) (o : Pixel) (clock : ℕ) (x s : ChannelState) (j i : Tracked)
-    → x ≡ channel_of t c → heard ≡ body_from o body → s ≡ enqueued heard clock x → j ≡ input_of t c → Tracks j i body → c - 1 < length t.inputs
+pub sends : (t : Table) (c : ℕ) (body was_sent : Body) (o : Pixel) (clock : ℕ) (x s : ChannelState) (j i : Tracked)
+    → x ≡ channel_of t c → was_sent ≡ body_from o body → s ≡ enqueued was_sent clock x → j ≡ input_of t c → Tracks j i body → c - 1 < length t.inputs
     → Sends c body o clock t (record t { channels = set t.channels (c - 1) s; inputs = set t.inputs (c - 1) i })
-sends t c body heard o clock x s j i from hears is was tracked within =
+sends t c body was_sent o clock x s j i from gets is was tracked within =
     let there : get_or (set t.inputs (c - 1) i) (c - 1) unsent ≡ i = get_or-set_same t.inputs (c - 1) i unsent within in
     record {
-      channels_are = ap (set t.channels (c - 1)) (is ∙ ap₂ (λ b y. enqueued b clock y) hears from);
+      channels_are = ap (set t.channels (c - 1)) (is ∙ ap₂ (λ b y. enqueued b clock y) gets from);
       inputs_are = ap (set t.inputs (c - 1)) (sym there);
       tracks =
           subst (λ k. Tracks (input_of t c) k body) (sym there) (subst (λ k. Tracks k i body) was tracked);

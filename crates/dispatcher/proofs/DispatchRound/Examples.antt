@@ -7,7 +7,7 @@ use Rattle.input_types.specs.declared.pointer.Pointer.{Pointer}
 use Rattle.routing_rules.specs.Cover.{with_flags}
 use Rattle.touch_state.specs.Touches.{Touches}
 use Rattle.dispatcher.specs.WindowCovers.Covers.{CoverTable}
-use Rattle.dispatcher.specs.DispatchRound.Light.{held_by, moved, most_moves}
+use Rattle.dispatcher.specs.DispatchRound.Steady.{held_by, moved, most_moves}
 
 -- window 1 holds the ids 0 and 2 of device 1, window 2 holds nothing, and window 3 id 1
 abbrev touches : List Touches

@@ -19,12 +19,12 @@ use Rattle.dispatcher.specs.InputChannel.Moves.{move_of}
 use Rattle.dispatcher.specs.InputChannel.State.{ChannelState, enqueued, each_released}
 use Rattle.dispatcher.specs.WindowCovers.Covers.{CoverTable, cover_in}
 use Rattle.dispatcher.specs.DispatchChannels.Table.{Table, IsOpened, channel_in, channel_of, input_of, unsent}
-use Rattle.dispatcher.specs.DispatchChannels.Heard.{body_from}
+use Rattle.dispatcher.specs.DispatchChannels.FromOrigin.{body_from}
 use Rattle.dispatcher.specs.DispatchChannels.Changes.{SendsPast}
 use Rattle.dispatcher.proofs.DispatchChannels.Wholes.{channel_set_same, channel_set_other}
 use Rattle.dispatcher.specs.DispatchRound.Bodies.{TracksAll, told}
-use Rattle.dispatcher.specs.DispatchRound.Light.{moved}
-use Rattle.dispatcher.specs.DispatchRound.Outgoing.{heard}
+use Rattle.dispatcher.specs.DispatchRound.Steady.{moved}
+use Rattle.dispatcher.specs.DispatchRound.Outgoing.{with_bodies}
 use Rattle.dispatcher.specs.DispatchRound.Past.{PassesOne}
 use Rattle.dispatcher.proofs.DispatchRound.MoveLaws.{some_moves, none_moves}
 use Rattle.dispatcher.proofs.DispatchRound.Telling.{no_flags, told_one}
@@ -61,7 +61,7 @@ passes_none ts m w t held none =
     let nothing : (covers : CoverTable) → [] ≡ moved covers ts m w = λ covers. sym (none_says covers ts m w held) in
     record {
       changes = λ covers o clock.
-          sym (released_none (channel_of t w) none) ∙ ap (λ bs. each_released (heard bs o clock (channel_of t w))) (nothing covers);
+          sym (released_none (channel_of t w) none) ∙ ap (λ bs. each_released (with_bodies bs o clock (channel_of t w))) (nothing covers);
       tracks = λ covers. subst (TracksAll (input_of t w) (input_of t w)) (nothing covers) (record { pointers_are = λ d. refl; keys_are = refl });
       spends = record { room = omega arith; track_room = omega arith; keys_are = refl };
       unfinished_is = refl;
@@ -75,7 +75,7 @@ pub passes_some : (ts : List Touches) (m : Motion) (w : ℕ) (t u : Table) → s
     → SendsPast w (MotionBody (move_of m.device flags (listing (holds_at ts w m.device) m.pointers))) o clock t u)
     → PassesOne ts m w t u
 passes_some ts m w t u held there sends = record {
-  changes = λ covers o clock. channel_is covers o clock ∙ ap (λ bs. each_released (heard bs o clock (channel_of t w))) (says covers);
+  changes = λ covers o clock. channel_is covers o clock ∙ ap (λ bs. each_released (with_bodies bs o clock (channel_of t w))) (says covers);
   tracks = λ covers. subst (TracksAll (input_of t w) (input_of u w)) (says covers)
       (record { pointers_are = λ d. h.tracks.pointers_are d; keys_are = h.tracks.keys_are });
   spends = record {
@@ -114,7 +114,7 @@ passes_some ts m w t u held there sends = record {
     flags covers = flags_of (cover_in covers w m.device)
 
     channel_is : (covers : CoverTable) (o : Pixel) (clock : ℕ)
-        → channel_of u w ≡ each_released (heard (body (flags covers) ∷ []) o clock (channel_of t w))
+        → channel_of u w ≡ each_released (with_bodies (body (flags covers) ∷ []) o clock (channel_of t w))
     channel_is covers o clock = by (flags covers) o clock
 
     says : (covers : CoverTable) → body (flags covers) ∷ [] ≡ moved covers ts m w

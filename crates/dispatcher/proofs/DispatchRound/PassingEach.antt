@@ -12,24 +12,24 @@ use Rattle.dispatcher.specs.DispatchChannels.Table.{Table, channel_of, input_of}
 use Rattle.dispatcher.specs.DispatchChannels.Changes.{Publishes}
 use Rattle.dispatcher.proofs.DispatchChannels.Picking.{channel_low}
 use Rattle.dispatcher.proofs.DispatchChannels.Moved.{reached, all_reached}
-use Rattle.dispatcher.specs.DispatchRound.Past.{HearsPast, MovesPast, PassesEach, PassesOne, SpendsOne, TracksPast}
+use Rattle.dispatcher.specs.DispatchRound.Past.{GetsPast, MovesPast, PassesEach, PassesOne, SpendsOne, TracksPast}
 use Rattle.dispatcher.specs.DispatchRound.Rounds.{IsLeft}
 use Rattle.dispatcher.proofs.DispatchRound.Reaching.{not_reached, reached_next, reached_other}
 use Rattle.dispatcher.proofs.DispatchRound.Passing.{some_held}
 
--- what a window hears, and what it spends, is by the channel and by what is kept of the window
-record Heard (ts : List Touches) (m : Motion) (old new : Table) (c : ℕ) : Type 0 where
-  changes : HearsPast ts m c (channel_of old c) (channel_of new c)
+-- what a window gets, and what it spends, is by the channel and by what is kept of the window
+record WasSent (ts : List Touches) (m : Motion) (old new : Table) (c : ℕ) : Type 0 where
+  changes : GetsPast ts m c (channel_of old c) (channel_of new c)
   tracks : TracksPast ts m c (input_of old c) (input_of new c)
   spends : SpendsOne old new c
 
 -- and so where both stay before or afterwards
-heard_after : (ts : List Touches) (m : Motion) (t u v : Table) (c : ℕ) → IsLeft t u c → Heard ts m u v c → Heard ts m t v c
-heard_after ts m t u v c same h =
+was_sent_after : (ts : List Touches) (m : Motion) (t u v : Table) (c : ℕ) → IsLeft t u c → WasSent ts m u v c → WasSent ts m t v c
+was_sent_after ts m t u v c same h =
     let room : (channel_of u c).spare ≡ (channel_of t c).spare = ap (λ s. s.spare) same.0 in
     let track_room : (input_of u c).spare ≡ (input_of t c).spare = ap (λ i. i.spare) same.1 in
     record {
-      changes = subst (λ s. HearsPast ts m c s (channel_of v c)) same.0 h.changes;
+      changes = subst (λ s. GetsPast ts m c s (channel_of v c)) same.0 h.changes;
       tracks = subst (λ i. TracksPast ts m c i (input_of v c)) same.1 h.tracks;
       spends = record {
         room = omega (arith, room, h.spends.room);
@@ -38,12 +38,12 @@ heard_after ts m t u v c same h =
       };
     }
 
-heard_before : (ts : List Touches) (m : Motion) (t u v : Table) (c : ℕ) → Heard ts m t u c → IsLeft u v c → Heard ts m t v c
-heard_before ts m t u v c h same =
+was_sent_before : (ts : List Touches) (m : Motion) (t u v : Table) (c : ℕ) → WasSent ts m t u c → IsLeft u v c → WasSent ts m t v c
+was_sent_before ts m t u v c h same =
     let room : (channel_of v c).spare ≡ (channel_of u c).spare = ap (λ s. s.spare) same.0 in
     let track_room : (input_of v c).spare ≡ (input_of u c).spare = ap (λ i. i.spare) same.1 in
     record {
-      changes = subst (λ s. HearsPast ts m c (channel_of t c) s) (sym same.0) h.changes;
+      changes = subst (λ s. GetsPast ts m c (channel_of t c) s) (sym same.0) h.changes;
       tracks = subst (λ i. TracksPast ts m c (input_of t c) i) (sym same.1) h.tracks;
       spends = record {
         room = omega (arith, room, h.spends.room);
@@ -57,9 +57,9 @@ pub passes_next : (ts : List Touches) (m : Motion) (mask rest k : ℕ) (t u v : 
     → PassesEach ts m (reached mask rest) t u → PassesOne ts m k u v
     → PassesEach ts m (reached mask (mask_less rest (mask_with 0 k))) t v
 passes_next ts m mask rest k t u v e is p q = record {
-  changes = λ c hear. (hears c hear).changes;
-  tracks = λ c hear. (hears c hear).tracks;
-  spends = λ c hear. (hears c hear).spends;
+  changes = λ c recipient. (gets c recipient).changes;
+  tracks = λ c recipient. (gets c recipient).tracks;
+  spends = λ c recipient. (gets c recipient).spends;
   unfinished_is = λ c low. elim (cases_eq c k) [
     | inl same ↦ subst (λ n. (channel_of v n).unfinished ≡ (channel_of t n).unfinished) (sym same) (q.unfinished_is ∙ p.unfinished_is k from)
     | inr ne ↦ ap (λ s. s.unfinished) (q.others c low ne).0 ∙ p.unfinished_is c low
@@ -84,14 +84,14 @@ passes_next ts m mask rest k t u v e is p q = record {
     from : 1 ≤ k
     from = channel_low rest k e
 
-    hears : (c : ℕ) → later c ≡ true → Heard ts m t v c
-    hears c hear = elim (cases_eq c k) [
-      | inl same ↦ subst (Heard ts m t v) (sym same) (heard_after ts m t u v k (p.stays k from (not_reached mask rest k e))
+    gets : (c : ℕ) → later c ≡ true → WasSent ts m t v c
+    gets c recipient = elim (cases_eq c k) [
+      | inl same ↦ subst (WasSent ts m t v) (sym same) (was_sent_after ts m t u v k (p.stays k from (not_reached mask rest k e))
           (record { changes = q.changes; tracks = q.tracks; spends = q.spends }))
       | inr ne ↦
-          let low : 1 ≤ c = channel_low mask c (and_parts (mask_has mask c) _ hear).0 in
-          let was = sym (reached_other mask rest k c e ne) ∙ hear in
-          heard_before ts m t u v c (record { changes = p.changes c was; tracks = p.tracks c was; spends = p.spends c was }) (q.others c low ne)
+          let low : 1 ≤ c = channel_low mask c (and_parts (mask_has mask c) _ recipient).0 in
+          let was = sym (reached_other mask rest k c e ne) ∙ recipient in
+          was_sent_before ts m t u v c (record { changes = p.changes c was; tracks = p.tracks c was; spends = p.spends c was }) (q.others c low ne)
     ]
 
 -- a mask with one window more
@@ -147,9 +147,9 @@ sent_next ts m mask rest k sent later moves e is moved was now w = elim (cases_e
 pub none_next : (mask rest k : ℕ) (t : Table) → mask_has rest k ≡ true → (channel_of t k).messages ≡ []
     → ((w : ℕ) → reached mask rest w ≡ true → (channel_of t w).messages ≡ [])
     → (w : ℕ) → reached mask (mask_less rest (mask_with 0 k)) w ≡ true → (channel_of t w).messages ≡ []
-none_next mask rest k t e here before w hear = elim (cases_eq w k) [
+none_next mask rest k t e here before w recipient = elim (cases_eq w k) [
   | inl same ↦ subst (λ c. (channel_of t c).messages ≡ []) (sym same) here
-  | inr ne ↦ before w (sym (reached_other mask rest k w e ne) ∙ hear)
+  | inr ne ↦ before w (sym (reached_other mask rest k w e ne) ∙ recipient)
 ]
 
 pub kept_none : (ms : List Message) → (length ms == 0) ≡ true → ms ≡ []
@@ -162,9 +162,9 @@ pub passes_last : (ts : List Touches) (m : Motion) (mask rest : ℕ) (t u : Tabl
 passes_last ts m mask rest t u none p =
     let all : (c : ℕ) → reached mask rest c ≡ mask_has mask c = λ c. ap (λ n. reached mask n c) none ∙ all_reached mask c in
     record {
-      changes = λ c hear. p.changes c (all c ∙ hear);
-      tracks = λ c hear. p.tracks c (all c ∙ hear);
-      spends = λ c hear. p.spends c (all c ∙ hear);
+      changes = λ c recipient. p.changes c (all c ∙ recipient);
+      tracks = λ c recipient. p.tracks c (all c ∙ recipient);
+      spends = λ c recipient. p.spends c (all c ∙ recipient);
       unfinished_is = p.unfinished_is;
       stays = λ c low out. p.stays c low (all c ∙ out);
       same = p.same;

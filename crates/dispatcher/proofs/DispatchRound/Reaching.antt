@@ -23,10 +23,10 @@ use Rattle.dispatcher.specs.declared.dispatch_round.listener.Listener.{Listener}
 use Rattle.dispatcher.specs.KeyTables.Held.{bodies_tracked}
 use Rattle.dispatcher.specs.DispatchRound.Bodies.{TracksAll, keys_to}
 use Rattle.dispatcher.specs.DispatchRound.Rounds.{IsRound, HoldsPointers, AllHoldPointers, is_concerned, sent_in, most_bodies, IsLeft}
-use Rattle.dispatcher.specs.DispatchRound.Outgoing.{origin_at, heard, SendsAll}
-use Rattle.dispatcher.specs.DispatchRound.Saying.{HearsRound, Spends}
-use Rattle.dispatcher.specs.DispatchRound.Each.{HearsEach}
-use Rattle.dispatcher.proofs.DispatchRound.Saying.{heard-unfinished, heard-gone}
+use Rattle.dispatcher.specs.DispatchRound.Outgoing.{origin_at, with_bodies, SendsAll}
+use Rattle.dispatcher.specs.DispatchRound.Saying.{GetsRound, Spends}
+use Rattle.dispatcher.specs.DispatchRound.Each.{SendsEach}
+use Rattle.dispatcher.proofs.DispatchRound.Saying.{with_bodies-unfinished, with_bodies-gone}
 use Rattle.dispatcher.proofs.DispatchRound.Ruling.{quiet_sent}
 
 -- which windows were reached
@@ -60,7 +60,7 @@ both_reached a b rest w none p q =
 -- a channel is sent what is said in the round in a scene
 abbrev pub IsSentAt : CoverTable → Round → List Pixel → ℕ → (t v : Table) → Scene → Step → ℕ → Type 0
 IsSentAt covers r origins clock t v s e c =
-    (channel_of v c ≡ heard (sent_in covers r s e c) (origin_at origins c) clock (channel_of t c))
+    (channel_of v c ≡ with_bodies (sent_in covers r s e c) (origin_at origins c) clock (channel_of t c))
     × TracksAll (input_of t c) (input_of v c) (sent_in covers r s e c)
 
 -- a channel that stays as it is afterwards has spent as much, and one that was as it is before too
@@ -83,14 +83,14 @@ spends_from r c t u v e f h = record {
 pub each_next : (r : Round) (ts : List Touches) (o : Option (List ℕ)) (mask rest : ℕ) (to : Listener) (origins : List Pixel) (t u v : Table)
     → mask_has rest to.window ≡ true → mask_has mask to.window ≡ true → mask_has t.live to.window ≡ true
     → to.origin ≡ origin_at origins to.window
-    → HearsEach to.covers.now r ts o (reached mask rest) origins to.clock t u
-    → HearsRound r ts o to u v
-    → HearsEach to.covers.now r ts o (reached mask (mask_less rest (mask_with 0 to.window))) origins to.clock t v
+    → SendsEach to.covers.now r ts o (reached mask rest) origins to.clock t u
+    → GetsRound r ts o to u v
+    → SendsEach to.covers.now r ts o (reached mask (mask_less rest (mask_with 0 to.window))) origins to.clock t v
 each_next r ts o mask rest to origins t u v e is live from_origin p q =
     record {
-      outgoing = λ s f before by h holds c hear. elim (cases_eq c to.window) [
+      outgoing = λ s f before by h holds c recipient. elim (cases_eq c to.window) [
         | inl same ↦ subst (IsSentAt to.covers.now r origins to.clock t v s f) (sym same) (here s f before by h holds)
-        | inr ne ↦ there s f before by h holds c ne (sym (reached_other mask rest to.window c e ne) ∙ hear)
+        | inr ne ↦ there s f before by h holds c ne (sym (reached_other mask rest to.window c e ne) ∙ recipient)
       ];
       stays = λ c from no. elim (cases_eq c to.window) [
         | inl same ↦ absurd (both_ways (reached mask (mask_less rest (mask_with 0 to.window)) c) no
@@ -99,22 +99,22 @@ each_next r ts o mask rest to origins t u v e is live from_origin p q =
             let before = p.stays c from (sym (reached_other mask rest to.window c e ne) ∙ no) in
             ((q.outgoing.others c from ne).0 ∙ before.0, (q.outgoing.others c from ne).1 ∙ before.1)
       ];
-      spends = λ c hear. elim (cases_eq c to.window) [
+      spends = λ c recipient. elim (cases_eq c to.window) [
         | inl same ↦ subst (λ n. Spends r n t v) (sym same) spent
         | inr ne ↦
-            let from : 1 ≤ c = channel_low mask c (and_parts (mask_has mask c) (not (mask_has (mask_less rest (mask_with 0 to.window)) c)) hear).0 in
-            let was = p.spends c (sym (reached_other mask rest to.window c e ne) ∙ hear) in
+            let from : 1 ≤ c = channel_low mask c (and_parts (mask_has mask c) (not (mask_has (mask_less rest (mask_with 0 to.window)) c)) recipient).0 in
+            let was = p.spends c (sym (reached_other mask rest to.window c e ne) ∙ recipient) in
             let other = q.outgoing.others c from ne in
             same_spends r c t u v other.0 other.1 was
       ];
       unfinished_is = λ c from. elim (cases_eq c to.window) [
         | inl same ↦ subst (λ n. (channel_of v n).unfinished ≡ (channel_of t n).unfinished) (sym same)
-            (ap (λ s. s.unfinished) q.outgoing.channel_is ∙ heard-unfinished q.bodies to.origin to.clock (channel_of u to.window) ∙ p.unfinished_is to.window low)
+            (ap (λ s. s.unfinished) q.outgoing.channel_is ∙ with_bodies-unfinished q.bodies to.origin to.clock (channel_of u to.window) ∙ p.unfinished_is to.window low)
         | inr ne ↦ ap (λ s. s.unfinished) (q.outgoing.others c from ne).0 ∙ p.unfinished_is c from
       ];
       gone_is = λ c from. elim (cases_eq c to.window) [
         | inl same ↦ subst (λ n. (channel_of v n).gone ≡ (channel_of t n).gone) (sym same)
-            (ap (λ s. s.gone) q.outgoing.channel_is ∙ heard-gone q.bodies to.origin to.clock (channel_of u to.window) ∙ p.gone_is to.window low)
+            (ap (λ s. s.gone) q.outgoing.channel_is ∙ with_bodies-gone q.bodies to.origin to.clock (channel_of u to.window) ∙ p.gone_is to.window low)
         | inr ne ↦ ap (λ s. s.gone) (q.outgoing.others c from ne).0 ∙ p.gone_is c from
       ];
       as_many = q.outgoing.as_many ∙ p.as_many;
@@ -136,16 +136,16 @@ each_next r ts o mask rest to origins t u v e is live from_origin p q =
     here s f before by h holds =
         let says : q.bodies ≡ sent_in to.covers.now r s f to.window = q.by_rules s f before by h (subst (HoldsPointers s to.window) (sym still.1) (holds to.window live)) in (
           q.outgoing.channel_is
-              ∙ ap (λ bs. heard bs to.origin to.clock (channel_of u to.window)) says
-              ∙ ap₂ (λ x y. heard (sent_in to.covers.now r s f to.window) x to.clock y) from_origin still.0,
+              ∙ ap (λ bs. with_bodies bs to.origin to.clock (channel_of u to.window)) says
+              ∙ ap₂ (λ x y. with_bodies (sent_in to.covers.now r s f to.window) x to.clock y) from_origin still.0,
           subst (λ (i : Tracked). TracksAll i (input_of v to.window) (sent_in to.covers.now r s f to.window)) still.1
               (subst (λ (bs : List Body). TracksAll (input_of u to.window) (input_of v to.window) bs) says q.outgoing.tracks),
         )
 
     there : (s : Scene) (f : Step) (before : List Touches) → IsChanged before ts r.mark o → IsRound s f before r → AllHoldPointers s t → (c : ℕ) → c ≢ to.window → reached mask rest c ≡ true → IsSentAt to.covers.now r origins to.clock t v s f c
-    there s f before by h holds c ne hear =
-        let from : 1 ≤ c = channel_low mask c (and_parts (mask_has mask c) (not (mask_has rest c)) hear).0 in
-        let was = p.outgoing s f before by h holds c hear in
+    there s f before by h holds c ne recipient =
+        let from : 1 ≤ c = channel_low mask c (and_parts (mask_has mask c) (not (mask_has rest c)) recipient).0 in
+        let was = p.outgoing s f before by h holds c recipient in
         let other = q.outgoing.others c from ne in (
           other.0 ∙ was.0,
           subst (λ (i : Tracked). TracksAll (input_of t c) i (sent_in to.covers.now r s f c)) (sym other.1) was.1,
@@ -153,13 +153,13 @@ each_next r ts o mask rest to origins t u v e is live from_origin p q =
 
 -- all were sent
 pub each_last : (covers : CoverTable) (r : Round) (ts : List Touches) (o : Option (List ℕ)) (mask rest : ℕ) (origins : List Pixel) (clock : ℕ) (t u : Table)
-    → rest ≡ 0 → HearsEach covers r ts o (reached mask rest) origins clock t u → HearsEach covers r ts o (mask_has mask) origins clock t u
+    → rest ≡ 0 → SendsEach covers r ts o (reached mask rest) origins clock t u → SendsEach covers r ts o (mask_has mask) origins clock t u
 each_last covers r ts o mask rest origins clock t u none p =
     let all : (c : ℕ) → reached mask rest c ≡ mask_has mask c = λ c. ap (λ n. reached mask n c) none ∙ all_reached mask c in
     record {
-      outgoing = λ s e before by h holds c hear. p.outgoing s e before by h holds c (all c ∙ hear);
+      outgoing = λ s e before by h holds c recipient. p.outgoing s e before by h holds c (all c ∙ recipient);
       stays = λ c from no. p.stays c from (all c ∙ no);
-      spends = λ c hear. p.spends c (all c ∙ hear);
+      spends = λ c recipient. p.spends c (all c ∙ recipient);
       unfinished_is = p.unfinished_is;
       gone_is = p.gone_is;
       as_many = p.as_many;
@@ -180,7 +180,7 @@ only_first a l none live = sym (and_true_right a) ∙ ap (λ x. a && x) (sym liv
 
 pub sends_all : (covers : CoverTable) (s : Scene) (e : Step) (r : Round) (ts us : List Touches) (o : Option (List ℕ)) (mask : ℕ) (origins : List Pixel) (clock : ℕ) (t u v : Table)
     → IsWhole r.mark → ((w : ℕ) → mask_has mask w ≡ (is_concerned ts r w && mask_has t.live w))
-    → HearsEach covers r us o (mask_has mask) origins clock t u → Publishes mask clock u v → IsChanged ts us r.mark o → IsRound s e ts r → AllHoldPointers s t
+    → SendsEach covers r us o (mask_has mask) origins clock t u → Publishes mask clock u v → IsChanged ts us r.mark o → IsRound s e ts r → AllHoldPointers s t
     → SendsAll mask (sent_in covers r s e) origins clock t v
 sends_all covers s e r ts us o mask origins clock t u v whole is p q by h holds =
     let lives : (c : ℕ) → mask_has mask c ≡ true → mask_has t.live c ≡ true =
@@ -227,7 +227,7 @@ published_spends r mask clock t u v q c low h = record {
 
 -- what nobody was sent leaves a channel as it was
 pub published_left : (covers : CoverTable) (r : Round) (us : List Touches) (o : Option (List ℕ)) (mask : ℕ) (origins : List Pixel) (clock : ℕ) (t u v : Table)
-    → HearsEach covers r us o (mask_has mask) origins clock t u → Publishes mask clock u v → (c : ℕ) → 1 ≤ c → mask_has mask c ≡ false → IsLeft t v c
+    → SendsEach covers r us o (mask_has mask) origins clock t u → Publishes mask clock u v → (c : ℕ) → 1 ≤ c → mask_has mask c ≡ false → IsLeft t v c
 published_left covers r us o mask origins clock t u v p q c from out = (
   q.channels_are c from ∙ leaves (mask_has mask c) (mask_has u.live c) _ _ out ∙ (p.stays c from out).0,
   ap (λ is. input_of (record u { inputs = is }) c) q.inputs_are ∙ (p.stays c from out).1,

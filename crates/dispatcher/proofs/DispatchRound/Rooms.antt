@@ -65,7 +65,7 @@ pub made_next : (r : Round) (first t : Table) (mask rest k n : ℕ) → mask_has
     → ((c : ℕ) → 1 ≤ c → reached mask rest c ≡ false → IsLeft first t c)
     → ((c : ℕ) → reached mask rest c ≡ true → HasMadeRoom r first t c)
     → (c : ℕ) → reached mask (mask_less rest (mask_with 0 k)) c ≡ true → HasMadeRoom r first (with_room k n t) c
-made_next r first t mask rest k n e is high many left before c hear = elim (cases_eq c k) [
+made_next r first t mask rest k n e is high many left before c recipient = elim (cases_eq c k) [
   | inl same ↦ subst (HasMadeRoom r first (with_room k n t)) (sym same) here
   | inr ne ↦ there ne
 ]
@@ -82,8 +82,8 @@ made_next r first t mask rest k n e is high many left before c hear = elim (case
 
     there : c ≢ k → HasMadeRoom r first (with_room k n t) c
     there ne =
-        let was = before c (sym (reached_other mask rest k c e ne) ∙ hear) in
-        let same = left_there t k n c low (channel_low mask c (and_parts (mask_has mask c) _ hear).0) ne in
+        let was = before c (sym (reached_other mask rest k c e ne) ∙ recipient) in
+        let same = left_there t k n c low (channel_low mask c (and_parts (mask_has mask c) _ recipient).0) ne in
         (same.0 ∙ was.0, same.1 ∙ was.1)
 
 -- what was made is enough
@@ -137,7 +137,7 @@ pub makes_room : (r : Round) (ts : List Touches) (mask rest : ℕ) (first t : Ta
 makes_room r ts mask rest first t none is made left =
     let all : (c : ℕ) → reached mask rest c ≡ (is_concerned ts r c && mask_has first.live c) =
     λ c. ap (λ n. reached mask n c) none ∙ all_reached mask c ∙ is c in
-    record { made = λ w hear. made w (all w ∙ hear); left = λ w from no. left w from (all w ∙ no) }
+    record { made = λ w recipient. made w (all w ∙ recipient); left = λ w from no. left w from (all w ∙ no) }
 
 -- no less room, and again no less
 pub no_less : (t u v : Table) → NoLessRoom t u → NoLessRoom u v → NoLessRoom t v
@@ -149,11 +149,11 @@ pub few_next : (r : Round) (first t : Table) (mask rest k : ℕ) → mask_has re
     → IsFew r t k
     → ((c : ℕ) → reached mask rest c ≡ true → IsFew r first c)
     → (c : ℕ) → reached mask (mask_less rest (mask_with 0 k)) c ≡ true → IsFew r first c
-few_next r first t mask rest k e is left here before c hear = elim (cases_eq c k) [
+few_next r first t mask rest k e is left here before c recipient = elim (cases_eq c k) [
   | inl same ↦
       let was = left k (channel_low rest k e) (not_reached mask rest k e) in
       subst (IsFew r first) (sym same) (subst (λ (i : Tracked). most_bodies r k i ≤ most_sent r k) was.1 here)
-  | inr ne ↦ before c (sym (reached_other mask rest k c e ne) ∙ hear)
+  | inr ne ↦ before c (sym (reached_other mask rest k c e ne) ∙ recipient)
 ]
 
 pub still_most : (r : Round) (first t : Table) (c : ℕ) → IsLeft first t c → HasMostRoom r first c → HasMostRoom r t c

@@ -31,7 +31,7 @@ use Rattle.dispatcher.specs.KeyTables.Focused.{change_of, change_sent}
 use Rattle.dispatcher.specs.WindowCovers.Covers.{CoverTable}
 use Rattle.dispatcher.specs.declared.dispatch_round.round.Round.{Round}
 use Rattle.dispatcher.specs.DispatchRound.Bodies.{motions_of, keys_to, bodies_of}
-use Rattle.dispatcher.specs.DispatchRound.Rounds.{IsStepIn, IsRound, HoldsPointers, may_take, may_hear, keyed, is_concerned, sent_in}
+use Rattle.dispatcher.specs.DispatchRound.Rounds.{IsStepIn, IsRound, HoldsPointers, may_take, may_reach, keyed, is_concerned, sent_in}
 use Rattle.dispatcher.specs.DispatchRound.Saying.{motions_by, losses, pilfered_from}
 
 -- what was found for a device
@@ -219,14 +219,14 @@ neither : (a b : Bool) → (a || b) ≡ false → (a ≡ false) × (b ≡ false)
 neither true b e = absurd (both_ways true e refl)
 neither false b e = (refl, e)
 
-none_hear : (p : ℕ → Bool) (f : ℕ → List Motion) (ds : List ℕ) → list_any p ds ≡ false → ((d : ℕ) → p d ≡ false → f d ≡ []) → flat_map f ds ≡ []
-none_hear p f [] none h = refl
-none_hear p f (d ∷ ds) none h =
+none_get : (p : ℕ → Bool) (f : ℕ → List Motion) (ds : List ℕ) → list_any p ds ≡ false → ((d : ℕ) → p d ≡ false → f d ≡ []) → flat_map f ds ≡ []
+none_get p f [] none h = refl
+none_get p f (d ∷ ds) none h =
     let both = neither (p d) (list_any p ds) none in
-    ap₂ (λ (xs ys : List Motion). xs ++ ys) (h d both.0) (none_hear p f ds both.1 h)
+    ap₂ (λ (xs ys : List Motion). xs ++ ys) (h d both.0) (none_get p f ds both.1 h)
 
 quiet_motions : (s : Scene) (e : Step) (ts : List Touches) (k : Mark) (o : Option Motion) (watchers w : ℕ)
-    → Stands s ts → IsWhole k → IsStepIn s ts k o watchers e → may_hear ts k o watchers w ≡ false → motions_of s e w ≡ []
+    → Stands s ts → IsWhole k → IsStepIn s ts k o watchers e → may_reach ts k o watchers w ≡ false → motions_of s e w ≡ []
 quiet_motions s e ts k (Some m) watchers w f whole h none =
     let both = neither (may_be_sent ts k w m.device) (mask_has watchers w) none in
     ap (λ x. motions_of s x w) h.0
@@ -245,7 +245,7 @@ quiet_motions s e ts k None watchers w f whole h none = at (may_take k) refl
     at : (b : Bool) → may_take k ≡ b → motions_of s e w ≡ []
     at false rests = sym (none_all s e k w h rests)
     at true does =
-        none_hear (may_be_sent ts k w) (outgoing s e w) devices (sym (ap (λ b. b && list_any (may_be_sent ts k w) devices) does) ∙ none)
+        none_get (may_be_sent ts k w) (outgoing s e w) devices (sym (ap (λ b. b && list_any (may_be_sent ts k w) devices) does) ∙ none)
         (λ d quiet. (quiet_law s ts k w d f whole quiet).1 e h)
 
 quiet_keys : (keys : List KeyMsg) (target w : ℕ) → is_channel w ≡ true → mask_has (keyed keys target) w ≡ false → keys_to target keys w ≡ []

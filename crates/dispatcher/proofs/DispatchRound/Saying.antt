@@ -10,13 +10,13 @@ use Rattle.dispatcher.specs.CancelSynthesis.Tracked.{pointers_then, keys_then}
 use Rattle.dispatcher.specs.KeyTables.Held.{bodies_tracked}
 use Rattle.window_snapshot.specs.Mask.{mask_has}
 use Rattle.dispatcher.specs.DispatchChannels.Table.{Table, opened, IsOpened, channel_in, channel_of, unsent}
-use Rattle.dispatcher.specs.DispatchChannels.Heard.{body_from}
+use Rattle.dispatcher.specs.DispatchChannels.FromOrigin.{body_from}
 use Rattle.dispatcher.specs.DispatchChannels.Changes.{Sends}
 use Rattle.dispatcher.proofs.DispatchChannels.Wholes.{channel_set_same, channel_set_other}
 use Rattle.dispatcher.specs.declared.dispatch_round.listener.Listener.{Listener}
 use Rattle.dispatcher.specs.DispatchRound.Bodies.{pointers_tracked}
-use Rattle.dispatcher.specs.DispatchRound.Outgoing.{heard}
-use Rattle.dispatcher.specs.DispatchRound.Saying.{CanHear, SendsOne}
+use Rattle.dispatcher.specs.DispatchRound.Outgoing.{with_bodies}
+use Rattle.dispatcher.specs.DispatchRound.Saying.{CanBeSent, SendsOne}
 
 -- nothing is sent
 pub sends_none : (to : Listener) (t : Table) → SendsOne to [] t t
@@ -53,10 +53,10 @@ sends_one to b t u h opened =
     }
 
 -- some, and then some more
-heard-append : (xs ys : List Body) (o : Pixel) (now : ℕ) (s : ChannelState)
-    → heard (xs ++ ys) o now s ≡ heard ys o now (heard xs o now s)
-heard-append [] ys o now s = refl
-heard-append (x ∷ xs) ys o now s = heard-append xs ys o now (enqueued (body_from o x) now s)
+with_bodies-append : (xs ys : List Body) (o : Pixel) (now : ℕ) (s : ChannelState)
+    → with_bodies (xs ++ ys) o now s ≡ with_bodies ys o now (with_bodies xs o now s)
+with_bodies-append [] ys o now s = refl
+with_bodies-append (x ∷ xs) ys o now s = with_bodies-append xs ys o now (enqueued (body_from o x) now s)
 
 pointers-append : (xs ys : List Body) (d : ℕ) (ps : List Pointer)
     → pointers_tracked (xs ++ ys) d ps ≡ pointers_tracked ys d (pointers_tracked xs d ps)
@@ -71,7 +71,7 @@ pub sends_then : (to : Listener) (xs ys : List Body) (t u v : Table) → SendsOn
 sends_then to xs ys t u v p q =
     let size : length (xs ++ ys) ≡ length xs + length ys = length-append xs ys in
     record {
-      channel_is = q.channel_is ∙ ap (heard ys to.origin to.clock) p.channel_is ∙ sym (heard-append xs ys to.origin to.clock (channel_of t to.window));
+      channel_is = q.channel_is ∙ ap (with_bodies ys to.origin to.clock) p.channel_is ∙ sym (with_bodies-append xs ys to.origin to.clock (channel_of t to.window));
       tracks = record {
         pointers_are = λ d. q.tracks.pointers_are d ∙ ap (pointers_tracked ys d) (p.tracks.pointers_are d) ∙ sym (pointers-append xs ys d _);
         keys_are = q.tracks.keys_are ∙ ap (bodies_tracked ys) p.tracks.keys_are ∙ sym (keys-append xs ys _);
@@ -85,18 +85,18 @@ sends_then to xs ys t u v p q =
     }
 
 -- each takes some of the room
-pub heard-spare : (xs : List Body) (o : Pixel) (now : ℕ) (s : ChannelState) → (heard xs o now s).spare ≡ s.spare - length xs
-heard-spare [] o now s = omega arith
-heard-spare (x ∷ xs) o now s =
-    let rest : (heard xs o now (enqueued (body_from o x) now s)).spare ≡ s.spare - 1 - length xs =
-    heard-spare xs o now (enqueued (body_from o x) now s) in
+pub with_bodies-spare : (xs : List Body) (o : Pixel) (now : ℕ) (s : ChannelState) → (with_bodies xs o now s).spare ≡ s.spare - length xs
+with_bodies-spare [] o now s = omega arith
+with_bodies-spare (x ∷ xs) o now s =
+    let rest : (with_bodies xs o now (enqueued (body_from o x) now s)).spare ≡ s.spare - 1 - length xs =
+    with_bodies-spare xs o now (enqueued (body_from o x) now s) in
     rest ∙ omega arith
 
-pub hears_after : (to : Listener) (xs : List Body) (n m : ℕ) (t u : Table)
-    → SendsOne to xs t u → CanHear to.window n t → m + length xs ≤ n → CanHear to.window m u
-hears_after to xs n m t u h can le =
+pub gets_after : (to : Listener) (xs : List Body) (n m : ℕ) (t u : Table)
+    → SendsOne to xs t u → CanBeSent to.window n t → m + length xs ≤ n → CanBeSent to.window m u
+gets_after to xs n m t u h can le =
     let spare : (channel_of u to.window).spare ≡ (channel_of t to.window).spare - length xs =
-    ap (λ s. s.spare) h.channel_is ∙ heard-spare xs to.origin to.clock (channel_of t to.window) in
+    ap (λ s. s.spare) h.channel_is ∙ with_bodies-spare xs to.origin to.clock (channel_of t to.window) in
     record {
       live = ap (λ m. mask_has m to.window) h.live_is ∙ can.live;
       opened = (can.opened.0, omega (arith, can.opened.1, h.as_many));
@@ -104,8 +104,8 @@ hears_after to xs n m t u h can le =
       track_room = omega (arith, h.track_spare, can.track_room, le);
     }
 
-pub hears_less : (w n m : ℕ) (t : Table) → CanHear w n t → m ≤ n → CanHear w m t
-hears_less w n m t can le = record {
+pub gets_less : (w n m : ℕ) (t : Table) → CanBeSent w n t → m ≤ n → CanBeSent w m t
+gets_less w n m t can le = record {
   live = can.live;
   opened = can.opened;
   room = omega (arith, can.room, le);
@@ -113,11 +113,11 @@ hears_less w n m t can le = record {
 }
 
 -- what is unfinished stays
-pub heard-unfinished : (xs : List Body) (o : Pixel) (now : ℕ) (s : ChannelState) → (heard xs o now s).unfinished ≡ s.unfinished
-heard-unfinished [] o now s = refl
-heard-unfinished (x ∷ xs) o now s = heard-unfinished xs o now (enqueued (body_from o x) now s)
+pub with_bodies-unfinished : (xs : List Body) (o : Pixel) (now : ℕ) (s : ChannelState) → (with_bodies xs o now s).unfinished ≡ s.unfinished
+with_bodies-unfinished [] o now s = refl
+with_bodies-unfinished (x ∷ xs) o now s = with_bodies-unfinished xs o now (enqueued (body_from o x) now s)
 
 -- no message is released
-pub heard-gone : (xs : List Body) (o : Pixel) (now : ℕ) (s : ChannelState) → (heard xs o now s).gone ≡ s.gone
-heard-gone [] o now s = refl
-heard-gone (x ∷ xs) o now s = heard-gone xs o now (enqueued (body_from o x) now s)
+pub with_bodies-gone : (xs : List Body) (o : Pixel) (now : ℕ) (s : ChannelState) → (with_bodies xs o now s).gone ≡ s.gone
+with_bodies-gone [] o now s = refl
+with_bodies-gone (x ∷ xs) o now s = with_bodies-gone xs o now (enqueued (body_from o x) now s)

@@ -21,8 +21,8 @@ use Rattle.dispatcher.specs.DispatchChannels.Table.{Table, input_of}
 use Rattle.dispatcher.specs.declared.dispatch_round.listener.Listener.{Listener}
 use Rattle.dispatcher.specs.DispatchRound.Bodies.{told}
 use Rattle.dispatcher.specs.DispatchRound.Rounds.{count_of}
-use Rattle.dispatcher.specs.DispatchRound.Saying.{CanHear, SendsOne, losses}
-use Rattle.dispatcher.proofs.DispatchRound.Saying.{sends_none, sends_then, hears_after, hears_less}
+use Rattle.dispatcher.specs.DispatchRound.Saying.{CanBeSent, SendsOne, losses}
+use Rattle.dispatcher.proofs.DispatchRound.Saying.{sends_none, sends_then, gets_after, gets_less}
 use Rattle.dispatcher.proofs.DispatchRound.Telling.{told_one, told-length, told-append, told_pointers}
 use Rattle.dispatcher.proofs.DispatchRound.Cancelling.{cancelled_few, cancelled_elsewhere, drop_devices}
 
@@ -46,8 +46,8 @@ pub each_next_of : {A : Type 0} (f : A → Body) (xs : List A) (i : ℕ) (x : A)
 each_next_of f xs i x lt is = ap (map f) (drop_here xs i x lt is)
 
 pub one_less : (to : Listener) (b : Body) (n i : ℕ) (t u : Table)
-    → SendsOne to (b ∷ []) t u → CanHear to.window (n - i) t → i < n → CanHear to.window (n - (i + 1)) u
-one_less to b n i t u h can lt = hears_after to (b ∷ []) (n - i) (n - (i + 1)) t u h can (omega (arith, lt))
+    → SendsOne to (b ∷ []) t u → CanBeSent to.window (n - i) t → i < n → CanBeSent to.window (n - (i + 1)) u
+one_less to b n i t u h can lt = gets_after to (b ∷ []) (n - i) (n - (i + 1)) t u h can (omega (arith, lt))
 
 -- the next of some motions
 pub motions_next : (to : Listener) (all : List Motion) (m : Motion) (n : List Motion) (t u v : Table)
@@ -58,11 +58,11 @@ motions_next to all m n t u v is others p q =
     (ap (told to.covers.now to.window) (first_of all m is ∙ ap (λ (ms : List Motion). m ∷ ms) (sym others))) p q
 
 pub motions_less : (to : Listener) (all : List Motion) (m : Motion) (n : List Motion) (t u : Table)
-    → Some m ≡ slice_get all 0 → n ≡ drop 1 all → SendsOne to (told to.covers.now to.window (m ∷ [])) t u → CanHear to.window (length all) t
-    → CanHear to.window (length n) u
+    → Some m ≡ slice_get all 0 → n ≡ drop 1 all → SendsOne to (told to.covers.now to.window (m ∷ [])) t u → CanBeSent to.window (length all) t
+    → CanBeSent to.window (length n) u
 motions_less to all m n t u is others h can =
     let size : length all ≡ suc (length n) = ap length (first_of all m is ∙ ap (λ (ms : List Motion). m ∷ ms) (sym others)) in
-    hears_after to (told_one to.covers.now to.window m ∷ []) (length all) (length n) t u h can (omega (arith, size))
+    gets_after to (told_one to.covers.now to.window m ∷ []) (length all) (length n) t u h can (omega (arith, size))
 
 pub motions_shrink : (all : List Motion) (m : Motion) (n : List Motion) → Some m ≡ slice_get all 0 → n ≡ drop 1 all → length n < length all
 motions_shrink all m n is others =
@@ -74,22 +74,22 @@ motions_none to all t is = subst (λ (ms : List Motion). SendsOne to (told to.co
 
 -- the cancels of some of the pointers that a window has
 pub few_cancels : (d : ℕ) (lost : ℕ → Bool) (w : ℕ) (outgoing : List Motion) (had : List Pointer) (n : ℕ) (t : Table)
-    → outgoing ≡ pointers_cancelled d lost had → length had ≤ n → CanHear w n t → CanHear w (length outgoing) t
+    → outgoing ≡ pointers_cancelled d lost had → length had ≤ n → CanBeSent w n t → CanBeSent w (length outgoing) t
 few_cancels d lost w outgoing had n t is few can =
     let size : length outgoing ≡ length (pointers_cancelled d lost had) = ap length is in
     let less : length (pointers_cancelled d lost had) ≤ length had = cancelled_few d lost had in
-    hears_less w n (length outgoing) t can (omega (arith, size, less, few))
+    gets_less w n (length outgoing) t can (omega (arith, size, less, few))
 
 -- the pointers of the next device
 pub room_for_device : (w k d : ℕ) (first now : Tracked) (t : Table)
     → k < 8 → d ≡ k + 1 → ((e : ℕ) → k < e → pointers_of now e ≡ pointers_of first e)
-    → CanHear w (count_of first (drop k devices)) t → CanHear w (length (pointers_of now d)) t
+    → CanBeSent w (count_of first (drop k devices)) t → CanBeSent w (length (pointers_of now d)) t
 room_for_device w k d first now t lt is same can =
     let all : count_of first (drop k devices) ≡ length (pointers_of first (k + 1)) + count_of first (drop (k + 1) devices) =
     ap (count_of first) (drop_devices k lt) in
     let here : length (pointers_of now d) ≡ length (pointers_of first (k + 1)) =
     ap (λ e. length (pointers_of now e)) is ∙ ap length (same (k + 1) (omega arith)) in
-    hears_less w _ _ t can (omega (arith, all, here))
+    gets_less w _ _ t can (omega (arith, all, here))
 
 same_losses : (ts : List Touches) (w d e : ℕ) (now first : Tracked) → d ≡ e → pointers_of now d ≡ pointers_of first e
     → losses ts w now d ≡ losses ts w first e
@@ -98,11 +98,11 @@ same_losses ts w d e now first is same =
 
 pub losses_next : (to : Listener) (ts : List Touches) (k d : ℕ) (first : Tracked) (t u v : Table)
     → k < 8 → d ≡ k + 1 → ((e : ℕ) → k < e → pointers_of (input_of u to.window) e ≡ pointers_of first e)
-    → CanHear to.window (count_of first (drop k devices)) u
+    → CanBeSent to.window (count_of first (drop k devices)) u
     → ((x : Table) → SendsOne to (told to.covers.now to.window (flat_map (losses ts to.window first) (drop k devices))) u x
     → SendsOne to (told to.covers.now to.window (flat_map (losses ts to.window first) devices)) t x)
     → SendsOne to (told to.covers.now to.window (losses ts to.window (input_of u to.window) d)) u v
-    → CanHear to.window (count_of first (drop (k + 1) devices)) v
+    → CanBeSent to.window (count_of first (drop (k + 1) devices)) v
     × ((e : ℕ) → k + 1 < e → pointers_of (input_of v to.window) e ≡ pointers_of first e)
     × ((x : Table) → SendsOne to (told to.covers.now to.window (flat_map (losses ts to.window first) (drop (k + 1) devices))) v x
     → SendsOne to (told to.covers.now to.window (flat_map (losses ts to.window first) devices)) t x)
@@ -120,7 +120,7 @@ losses_next to ts k d first t u v lt is same can all h =
     ∙ ap (told to.covers.now to.window)
     (ap (λ (ms : List Motion). ms ++ flat_map (losses ts to.window first) ds) (same_losses ts to.window d (k + 1) (input_of u to.window) first is there)
     ∙ sym (ap (flat_map (losses ts to.window first)) (drop_devices k lt))) in (
-      hears_after to (told to.covers.now to.window now) (count_of first (drop k devices)) (count_of first ds) u v h can (omega (arith, counted, made, few, here)),
+      gets_after to (told to.covers.now to.window now) (count_of first (drop k devices)) (count_of first ds) u v h can (omega (arith, counted, made, few, here)),
       λ e above.
           h.tracks.pointers_are e
           ∙ told_pointers to.covers.now to.window now e (pointers_of (input_of u to.window) e)

@@ -11,7 +11,7 @@ use Rattle.dispatch_history.specs.History.{clock, live, live_after, opened, open
 use Rattle.dispatch_history.specs.Effect.{Effect, past_of}
 use Rattle.dispatch_history.specs.Effects.{effect_of, step}
 use Rattle.dispatch_history.specs.Queue.{args_of, inbound}
-use Rattle.dispatch_history.specs.Delivery.{able, unresponsive, is_named_by, is_finish_of, has_late, oldest}
+use Rattle.dispatch_history.specs.Delivery.{able, unresponsive, is_reported_by, is_finish_of, has_late, oldest}
 use Rattle.dispatch_history.specs.Due.{is_late_at, named, mask_of}
 use Rattle.dispatch_history.specs.Reply.{reply_to}
 use Rattle.dispatch_history.proofs.AbleLaws.{unresponsive_step}
@@ -91,7 +91,7 @@ same_named a b e = cc
 
 -- a channel that was never opened is not reported, and so not unresponsive
 not_named : (ds : List ℕ) (es : List Effect) (c : ℕ) (call : Call) (answer : Reply) → Lawful ds es
-    → answer ≡ reply_to es call → opened (past_of es) < c → is_named_by call answer c ≡ false
+    → answer ≡ reply_to es call → opened (past_of es) < c → is_reported_by call answer c ≡ false
 not_named ds es c (Tick now) (Named mask) l r lt =
     ap (λ m. mask_has m c) (same_named mask (mask_of (named es now)) r)
     ∙ named_mask ds es now c l
@@ -109,7 +109,7 @@ unopened_responds ds es c l lt =
     let last = lawful_last ds call answer xs m in
     let before : opened (past_of xs) < c = omega (arith, x, opened_mono call answer (opened (past_of xs))) in
     unresponsive_step (effect_of ds call answer (args_of call answer (inbound (past_of xs))) xs) xs c
-    ∙ quietly (is_named_by call answer c) (unresponsive xs c) (is_finish_of call answer c) (has_late (step ds call answer xs) c)
+    ∙ quietly (is_reported_by call answer c) (unresponsive xs c) (is_finish_of call answer c) (has_late (step ds call answer xs) c)
     (not_named ds xs c call answer last.1 last.0 before) (h before))
     es l lt
 
@@ -153,7 +153,7 @@ next_opened n k r =
 
 by_call : (ds : List ℕ) (es : List Effect) (c : ℕ) (call : Call) (answer : Reply) (late : Bool) → Lawful ds es
     → answer ≡ reply_to es call
-    → (live_after call answer c (live (past_of es) c) && not (is_named_by call answer c || unresponsive es c && not (is_finish_of call answer c && not late)))
+    → (live_after call answer c (live (past_of es) c) && not (is_reported_by call answer c || unresponsive es c && not (is_finish_of call answer c && not late)))
     ≡ able_after call answer late c (live (past_of es) c && not (unresponsive es c))
 by_call ds es c (Open terms) (Opened k) late l r =
     opens (c == k) (live (past_of es) c) (unresponsive es c)

@@ -17,7 +17,7 @@ use Rattle.dispatch_calls.specs.declared.reply.Reply.{Reply}
 use Rattle.dispatch_calls.specs.declared.reply.Reply.TheVariants.{Full, Done, Idle, Named, Gone}
 use Rattle.dispatch_history.specs.History.{History, live, origin}
 use Rattle.dispatch_history.specs.Effect.{Effect, past_of}
-use Rattle.dispatch_history.specs.Delivery.{able, names}
+use Rattle.dispatch_history.specs.Delivery.{able, reports}
 use Rattle.dispatch_history.specs.Focus.{has_focus, is_target, focus_sent}
 use Rattle.dispatch_history.specs.Keys.{keys, ends, loses_all}
 use Rattle.dispatch_history.specs.KeySent.{keys_sent, key_cancelled, repeat_by, last_key}
@@ -30,8 +30,8 @@ none_end : (ks : List KeyArgs) → filter (ends None) ks ≡ []
 none_end [] = refl
 none_end (k ∷ ks) = none_end ks
 
-no_keys : (hears loses : Bool) (ks : List KeyArgs) → loses ≡ false → keys_sent None hears loses ks ≡ []
-no_keys hears loses ks e = ap (λ b. map key_cancelled (cond b ks (filter (ends None) ks))) e ∙ ap (map key_cancelled) (none_end ks)
+no_keys : (gets loses : Bool) (ks : List KeyArgs) → loses ≡ false → keys_sent None gets loses ks ≡ []
+no_keys gets loses ks e = ap (λ b. map key_cancelled (cond b ks (filter (ends None) ks))) e ∙ ap (map key_cancelled) (none_end ks)
 
 no_focus : (b : Bool) → focus_sent b b ≡ []
 no_focus true = refl
@@ -48,7 +48,7 @@ keeps_keys before later named lives e f g = rw (e, f, g) (same before)
 
 -- a step without args after which a channel has the focus as before, is not reported, and is sent no motion
 said_none : (after : History) (es : List Effect) (s : Scene) (e : Step) (k : Mark) (c : ℕ)
-    → flat_map (sent_with s e k c) devices ≡ [] → is_target after c ≡ is_target (past_of es) c → names after c ≡ false
+    → flat_map (sent_with s e k c) devices ≡ [] → is_target after c ≡ is_target (past_of es) c → reports after c ≡ false
     → has_focus after c ≡ has_focus (past_of es) c → repeat_by after (last_key es) c ≡ []
     → said after None s e k es c ≡ []
 said_none after es s e k c motions target named focus repeats = by_live (live after c) refl
@@ -57,7 +57,7 @@ said_none after es s e k c motions target named focus repeats = by_live (live af
     outgoing y =
         ap₂ (λ xs ys. map Key (xs ++ ys))
         (no_keys (is_target (past_of es) c && able es c) (loses_all after (past_of es) c) (keys es c)
-        (keeps_keys (is_target (past_of es) c) (is_target after c) (names after c) (live after c) target named y))
+        (keeps_keys (is_target (past_of es) c) (is_target after c) (reports after c) (live after c) target named y))
         repeats
 
     nothing : live after c ≡ true
@@ -90,7 +90,7 @@ not_muted s mask c d n = quiet_law s (Mutes (mask_has mask)) c d refl (λ j. n)
 -- a step that is no motion, and changes neither the windows nor the focus
 rested : (ds : List ℕ) (call : Call) (answer : Reply) (es : List Effect) (c : ℕ)
     → let after : History = (call, answer) ∷ past_of es in
-    is_target after c ≡ is_target (past_of es) c → names after c ≡ false → has_focus after c ≡ has_focus (past_of es) c → repeat_by after (last_key es) c ≡ []
+    is_target after c ≡ is_target (past_of es) c → reports after c ≡ false → has_focus after c ≡ has_focus (past_of es) c → repeat_by after (last_key es) c ≡ []
     → said ((call, answer) ∷ past_of es) None (scene ds es) NoOp (mark (scene ds es) NoOp) es c ≡ []
 rested ds call answer es c target named focus repeats =
     said_none ((call, answer) ∷ past_of es) es (scene ds es) NoOp (mark (scene ds es) NoOp) c refl target named focus repeats

@@ -4,12 +4,12 @@ use Rattle.std.proofs.lemmas.Bool.{cases_eq, ne_eqb}
 use Rattle.input_types.specs.declared.message.Args.{Args}
 use Rattle.input_types.specs.DeviceRule.{after_args, device_of, device_state}
 use Rattle.dispatcher.specs.declared.inbound.change.Change.{Change}
-use Rattle.dispatcher.specs.InboundArgs.Kept.{Kept}
+use Rattle.dispatcher.specs.InboundArgs.Kept.{DownSets}
 use Rattle.dispatcher.specs.InboundArgs.Down.{PlansAt, Changes, DevicesStandFor, state_at, changed}
 use Rattle.dispatcher.specs.InboundArgs.Laws.{AcceptLaw, DownLaw}
 
 -- a device of which the args are
-own : (past : List Args) (a : Args) (c : Change) (old new : List Kept) (d : ℕ) → d ≡ device_of a → 1 ≤ d → d ≤ 8 → DevicesStandFor past old
+own : (past : List Args) (a : Args) (c : Change) (old new : List DownSets) (d : ℕ) → d ≡ device_of a → 1 ≤ d → d ≤ 8 → DevicesStandFor past old
     → PlansAt old a (Ok c) → Changes c old new → device_state d (a ∷ past) ≡ Some (state_at new d)
 own past a c old new d e low high stands planned change =
     let is : nat_eq (device_of a) d ≡ true = eq-eqb (device_of a) d (sym e) in
@@ -19,7 +19,7 @@ own past a c old new d e low high stands planned change =
     rw (is, stands d low high) (next ∙ ap Some (sym later))
 
 -- any other device
-another : (past : List Args) (a : Args) (c : Change) (old new : List Kept) (d : ℕ) → d ≢ device_of a → 1 ≤ d → d ≤ 8 → DevicesStandFor past old
+another : (past : List Args) (a : Args) (c : Change) (old new : List DownSets) (d : ℕ) → d ≢ device_of a → 1 ≤ d → d ≤ 8 → DevicesStandFor past old
     → PlansAt old a (Ok c) → Changes c old new → device_state d (a ∷ past) ≡ Some (state_at new d)
 another past a c old new d e low high stands planned change =
     let is : nat_eq (device_of a) d ≡ false = ne_eqb (device_of a) d (λ same. e (sym same)) in

@@ -6,11 +6,11 @@ use Rattle.input_types.specs.DeviceRule.{nothing_down}
 use Rattle.pointers_down.proofs.Sets.{none_listed}
 use Rattle.dispatcher.proofs.InboundArgs.KeySets.{none_down}
 use Rattle.dispatcher.specs.declared.inbound.change.Change.{Change}
-use Rattle.dispatcher.specs.InboundArgs.Kept.{Kept}
+use Rattle.dispatcher.specs.InboundArgs.Kept.{DownSets}
 use Rattle.dispatcher.specs.InboundArgs.Down.{state_of, state_at, untouched, changed, Changes, DevicesStandFor}
 
 -- one device anew
-pub changes_set : (ks : List Kept) (c : Change) (new : Kept) → length ks ≡ 8 → 1 ≤ c.device → c.device ≤ 8
+pub changes_set : (ks : List DownSets) (c : Change) (new : DownSets) → length ks ≡ 8 → 1 ≤ c.device → c.device ≤ 8
     → state_of new ≡ changed c.becomes (state_at ks c.device) → Changes c ks (set ks (c.device - 1) new)
 changes_set ks c new eight low high e d from =
     ⊎_elim
@@ -21,7 +21,7 @@ changes_set ks c new eight low high e d from =
     (cases_eq d c.device)
 
 -- nothing is down on any of these devices
-abbrev pub Blank : List Kept → Type 0
+abbrev pub Blank : List DownSets → Type 0
 Blank ks = (i : ℕ) → state_of (get_or ks i untouched) ≡ nothing_down
 
 -- a device of which nothing came
@@ -31,11 +31,11 @@ nothing_on i = record { ids = none_listed i; keys = λ scan. none_down 0 scan i 
 pub blank_none : Blank []
 blank_none i = nothing_on
 
-pub blank_more : (ks : List Kept) (k : Kept) → state_of k ≡ nothing_down → Blank ks → Blank (ks ++ k ∷ [])
+pub blank_more : (ks : List DownSets) (k : DownSets) → state_of k ≡ nothing_down → Blank ks → Blank (ks ++ k ∷ [])
 blank_more [] k e h zero = e
 blank_more [] k e h (suc i) = nothing_on
 blank_more (x ∷ ks) k e h zero = h zero
 blank_more (x ∷ ks) k e h (suc i) = blank_more ks k e (λ j. h (suc j)) i
 
-pub nothing_yet : (ks : List Kept) → Blank ks → DevicesStandFor [] ks
+pub nothing_yet : (ks : List DownSets) → Blank ks → DevicesStandFor [] ks
 nothing_yet ks h d low high = ap Some (sym (h (d - 1)))

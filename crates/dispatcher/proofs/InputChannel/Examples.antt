@@ -3,7 +3,7 @@ use Rattle.std.specs.Prelude.{◌≡◌, pos, true, false, [], ◌∷◌, None, 
 use Rattle.std.proofs.Common.{refl}
 use Rattle.input_types.specs.declared.message.Body.TheVariants.{Motion as MotionBody, Focus}
 use Rattle.dispatcher.specs.InputChannel.Moves.{move_of, moves_from}
-use Rattle.dispatcher.specs.InputChannel.State.{ChannelState, opened_with, sent, enqueued, published_at, next_of, received_next, passed, may_finish, finished_with, release_of, each_released, all_released, oldest_of, has_late}
+use Rattle.dispatcher.specs.InputChannel.State.{ChannelState, opened_with, sent, enqueued, published_at, next_of, received_next, received_uncopied, may_finish, finished_with, release_of, each_released, all_released, oldest_of, has_late}
 use Rattle.dispatch_history.proofs.Worked.{usual}
 
 -- Two messages with the clock at 0 and at 1000000, both received
@@ -84,11 +84,11 @@ it_was_next = refl
 pub each_is_gone : next_of (published_at 9 (each_released untaken)) ≡ None
 each_is_gone = refl
 
-pub it_is_passed : (passed (published_at 9 (each_released untaken))).received ≡ 2
-it_is_passed = refl
+pub it_is_received_uncopied : (received_uncopied (published_at 9 (each_released untaken))).received ≡ 2
+it_is_received_uncopied = refl
 
-pub nothing_more_is_passed : passed (passed (published_at 9 (each_released untaken))) ≡ passed (published_at 9 (each_released untaken))
-nothing_more_is_passed = refl
+pub nothing_more_is_received : received_uncopied (received_uncopied (published_at 9 (each_released untaken))) ≡ received_uncopied (published_at 9 (each_released untaken))
+nothing_more_is_received = refl
 
 -- what was released already stays so
 pub gone_stays : (release_of (all_released untaken)).gone ≡ 2

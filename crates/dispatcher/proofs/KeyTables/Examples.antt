@@ -7,7 +7,7 @@ use Rattle.key_repeat.specs.Due.{Sent}
 use Rattle.dispatch_calls.specs.declared.call.Call.TheVariants.{Windows, FocusOn, Pump, Tick}
 use Rattle.dispatch_calls.specs.declared.reply.Reply.TheVariants.{Done, Dispatched, Repeated, Named}
 use Rattle.dispatcher.specs.KeyTables.Focused.{change_of}
-use Rattle.dispatcher.specs.KeyTables.Held.{key_heard, target_sent}
+use Rattle.dispatcher.specs.KeyTables.Held.{sent_for_key, target_sent}
 use Rattle.dispatcher.specs.KeyTables.Repeats.{repeat_after}
 
 abbrev volume_up : Bool → KeyArgs
@@ -23,16 +23,16 @@ sent repeat clock = Some (record { channel = 1; key = message true 0 repeat; clo
 abbrev held : List KeyMsg
 held = message true 0 2 ∷ []
 
-a_down_is_heard : key_heard (volume_up true) true [] ≡ Some (message true 0 0)
-a_down_is_heard = refl
+a_down_is_sent : sent_for_key (volume_up true) true [] ≡ Some (message true 0 0)
+a_down_is_sent = refl
 
-a_window_that_does_not_answer_hears_no_down : key_heard (volume_up true) false [] ≡ None
-a_window_that_does_not_answer_hears_no_down = refl
+a_window_that_does_not_answer_gets_no_down : sent_for_key (volume_up true) false [] ≡ None
+a_window_that_does_not_answer_gets_no_down = refl
 
-an_up_is_sent_where_the_key_is_held : key_heard (volume_up false) true held ≡ Some (message false 0 0)
+an_up_is_sent_where_the_key_is_held : sent_for_key (volume_up false) true held ≡ Some (message false 0 0)
 an_up_is_sent_where_the_key_is_held = refl
 
-and_nowhere_else : key_heard (volume_up false) true [] ≡ None
+and_nowhere_else : sent_for_key (volume_up false) true [] ≡ None
 and_nowhere_else = refl
 
 a_reset_of_its_device_cancels : target_sent (Pump 1600000) Dispatched (Some (Reset 1)) 1 true true held (sent 2 1550000) ≡ message false 32 0 ∷ []

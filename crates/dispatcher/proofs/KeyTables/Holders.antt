@@ -9,14 +9,14 @@ use Rattle.dispatch_history.specs.Queue.{inbound, args_of}
 use Rattle.dispatch_history.specs.Effect.{Effect, past_of}
 use Rattle.dispatch_history.specs.Effects.{effects, effect_of}
 use Rattle.dispatch_history.specs.Focus.{is_target}
-use Rattle.dispatch_history.specs.Delivery.{able, names, unresponsive}
+use Rattle.dispatch_history.specs.Delivery.{able, reports, unresponsive}
 use Rattle.dispatch_history.specs.Keys.{goes_down, ends, loses_all, key_given, keys}
 use Rattle.dispatch_history.proofs.AbleLaws.{able_step}
 use Rattle.dispatcher.specs.KeyTables.Laws.{KeysOfTarget}
 
 -- nothing is given to a window that gets no keys, and nothing remains of no keys
-none_kept : (g : Option KeyArgs) (loses : Bool) (p : KeyArgs → Bool) (hears : Bool) (old : List KeyArgs) → hears ≡ false → old ≡ [] → key_given g hears (cond loses [] (filter p old)) ≡ []
-none_kept g loses p hears old f e = ap₂ (λ b ks. key_given g b (cond loses [] (filter p ks))) f e ∙ by_given g loses
+none_kept : (g : Option KeyArgs) (loses : Bool) (p : KeyArgs → Bool) (gets : Bool) (old : List KeyArgs) → gets ≡ false → old ≡ [] → key_given g gets (cond loses [] (filter p old)) ≡ []
+none_kept g loses p gets old f e = ap₂ (λ b ks. key_given g b (cond loses [] (filter p ks))) f e ∙ by_given g loses
   where
     by_given : (g : Option KeyArgs) (b : Bool) → key_given g false (cond b [] []) ≡ []
     by_given None true = refl
@@ -54,9 +54,9 @@ only_target ds ((call, answer) ∷ h) w n =
     left c t a q =
         let x = effect_of ds c answer (args_of c answer (inbound (past_of es))) es in
         let un = not-true (unresponsive es w) (and_parts (live (past_of es) w) (not (unresponsive es w)) a).1 in
-        let later : able (x ∷ es) w ≡ (live ((c, answer) ∷ past_of es) w && not (names ((c, answer) ∷ past_of es) w)) = (able_step x es w).0 un in
+        let later : able (x ∷ es) w ≡ (live ((c, answer) ∷ past_of es) w && not (reports ((c, answer) ∷ past_of es) w)) = (able_step x es w).0 un in
         ap (λ b. cond b [] (filter (λ k. true) (keys es w)))
-        (loses_then (is_target (past_of es) w) (is_target ((c, answer) ∷ past_of es) w) (live ((c, answer) ∷ past_of es) w) (names ((c, answer) ∷ past_of es) w) t
+        (loses_then (is_target (past_of es) w) (is_target ((c, answer) ∷ past_of es) w) (live ((c, answer) ∷ past_of es) w) (reports ((c, answer) ∷ past_of es) w) t
         (sym (ap (λ b. is_target ((c, answer) ∷ past_of es) w && b) later) ∙ q))
 
     by_call : (c : Call) → is_target (past_of es) w ≡ true → able es w ≡ true

@@ -100,8 +100,8 @@ all_left p (k ∷ ks) e =
     ap (λ b. cond (not b) (k ∷ filter (λ l. not (p l)) ks) (filter (λ l. not (p l)) ks)) q.0 ∙ ap (λ ls. k ∷ ls) (all_left p ks q.1)
 
 -- the key messages of a step, tracked, leave the keys after it
-abbrev pub Leaves : Option Args → (hears loses : Bool) → List KeyMsg → List KeyMsg → Type 0
-Leaves o hears loses held outgoing = keys_in (tracked outgoing held) ≡ next_keys o hears loses (keys_in held)
+abbrev pub Leaves : Option Args → (gets loses : Bool) → List KeyMsg → List KeyMsg → Type 0
+Leaves o gets loses held outgoing = keys_in (tracked outgoing held) ≡ next_keys o gets loses (keys_in held)
 
 none_left : (loses : Bool) (held : List KeyMsg)
     → keys_in (tracked (map key_cancelled (cond loses (keys_in held) (filter (λ k. false) (keys_in held)))) held) ≡ cond loses [] (filter (λ k. true) (keys_in held))
@@ -119,15 +119,15 @@ device_left d false held =
     ∙ ap keys_in (device_keys_end d held ∙ (λ i. filter (λ m. not (turned m.key.device d i)) held))
     ∙ sym (filter_keys (λ k. not (d == k.device)) held)
 
-key_left : (hears : Bool) (j : KeyArgs) (held : List KeyMsg) (b : Bool) → j.down ≡ b → (b ≡ true → held_key (keys_in held) j.device j.scan ≡ None)
-    → keys_in (tracked (cond b (cond hears (key_as_is j ∷ []) []) (cond (list_any (same_key j) (keys_in held)) (key_as_is j ∷ []) [])) held)
-    ≡ key_given (cond b (Some j) None) hears (filter (λ k. not (not b && same_key j k)) (keys_in held))
+key_left : (gets : Bool) (j : KeyArgs) (held : List KeyMsg) (b : Bool) → j.down ≡ b → (b ≡ true → held_key (keys_in held) j.device j.scan ≡ None)
+    → keys_in (tracked (cond b (cond gets (key_as_is j ∷ []) []) (cond (list_any (same_key j) (keys_in held)) (key_as_is j ∷ []) [])) held)
+    ≡ key_given (cond b (Some j) None) gets (filter (λ k. not (not b && same_key j k)) (keys_in held))
 key_left false j held true e new = sym (filter_all (λ k. true) (λ k. refl) (keys_in held))
 key_left true j held true e new =
     ap (λ b. keys_in (cond b (keep (key_as_is j) held) (forget (key_as_is j) held))) e
     ∙ keep_new (key_as_is j) held (new refl)
     ∙ ap (with_key j) (sym (filter_all (λ k. true) (λ k. refl) (keys_in held)))
-key_left hears j held false e new = by_held (list_any (same_key j) (keys_in held)) refl
+key_left gets j held false e new = by_held (list_any (same_key j) (keys_in held)) refl
   where
     by_held : (c : Bool) → list_any (same_key j) (keys_in held) ≡ c → keys_in (tracked (cond c (key_as_is j ∷ []) []) held) ≡ filter (λ k. not (same_key j k)) (keys_in held)
     by_held true f =
@@ -146,36 +146,36 @@ no_loss (Some (MotionArgs m)) = tt
 no_loss (Some (Reset r)) = tt
 no_loss (Some (KeyOfDevice k)) = refl
 
-leaves : (o : Option Args) (hears loses : Bool) (held : List KeyMsg) → NoLoss o loses → NewKey o (keys_in held) → Leaves o hears loses held (keys_sent o hears loses (keys_in held))
-leaves None hears loses held n new = none_left loses held
-leaves (Some (MotionArgs m)) hears loses held n new = none_left loses held
-leaves (Some (Reset d)) hears loses held n new = device_left d loses held
-leaves (Some (KeyOfDevice j)) hears loses held n new =
+leaves : (o : Option Args) (gets loses : Bool) (held : List KeyMsg) → NoLoss o loses → NewKey o (keys_in held) → Leaves o gets loses held (keys_sent o gets loses (keys_in held))
+leaves None gets loses held n new = none_left loses held
+leaves (Some (MotionArgs m)) gets loses held n new = none_left loses held
+leaves (Some (Reset d)) gets loses held n new = device_left d loses held
+leaves (Some (KeyOfDevice j)) gets loses held n new =
     subst
     (λ b.
-    keys_in (tracked (keys_sent (Some (KeyOfDevice j)) hears b (keys_in held)) held)
-    ≡ key_given (cond j.down (Some j) None) hears (cond b [] (filter (λ k. not (not j.down && same_key j k)) (keys_in held))))
+    keys_in (tracked (keys_sent (Some (KeyOfDevice j)) gets b (keys_in held)) held)
+    ≡ key_given (cond j.down (Some j) None) gets (cond b [] (filter (λ k. not (not j.down && same_key j k)) (keys_in held))))
     (sym n) (by_down j.down refl)
   where
     by_down : (b : Bool) → j.down ≡ b
-        → keys_in (tracked (cond j.down (cond hears (key_as_is j ∷ []) []) (cond (list_any (same_key j) (keys_in held)) (key_as_is j ∷ []) [])) held)
-        ≡ key_given (cond j.down (Some j) None) hears (filter (λ k. not (not j.down && same_key j k)) (keys_in held))
+        → keys_in (tracked (cond j.down (cond gets (key_as_is j ∷ []) []) (cond (list_any (same_key j) (keys_in held)) (key_as_is j ∷ []) [])) held)
+        ≡ key_given (cond j.down (Some j) None) gets (filter (λ k. not (not j.down && same_key j k)) (keys_in held))
     by_down b e =
         subst
         (λ c.
-        keys_in (tracked (cond c (cond hears (key_as_is j ∷ []) []) (cond (list_any (same_key j) (keys_in held)) (key_as_is j ∷ []) [])) held)
-        ≡ key_given (cond c (Some j) None) hears (filter (λ k. not (not c && same_key j k)) (keys_in held)))
-        (sym e) (key_left hears j held b e (λ t. new j (ap (λ c. cond c (Some j) None) (e ∙ t))))
+        keys_in (tracked (cond c (cond gets (key_as_is j ∷ []) []) (cond (list_any (same_key j) (keys_in held)) (key_as_is j ∷ []) [])) held)
+        ≡ key_given (cond c (Some j) None) gets (filter (λ k. not (not c && same_key j k)) (keys_in held)))
+        (sym e) (key_left gets j held b e (λ t. new j (ap (λ c. cond c (Some j) None) (e ∙ t))))
 
-pub leaves_alone : (o : Option Args) (hears loses : Bool) (held : List KeyMsg) → NoLoss o loses → NewKey o (keys_in held)
-    → Leaves o hears loses held (keys_sent o hears loses (keys_in held) ++ [])
-leaves_alone o hears loses held n new =
-    ap (λ ms. keys_in (tracked ms held)) (append-nil (keys_sent o hears loses (keys_in held))) ∙ leaves o hears loses held n new
+pub leaves_alone : (o : Option Args) (gets loses : Bool) (held : List KeyMsg) → NoLoss o loses → NewKey o (keys_in held)
+    → Leaves o gets loses held (keys_sent o gets loses (keys_in held) ++ [])
+leaves_alone o gets loses held n new =
+    ap (λ ms. keys_in (tracked ms held)) (append-nil (keys_sent o gets loses (keys_in held))) ∙ leaves o gets loses held n new
 
 -- no args are dispatched, and nothing is lost
-leaves_idle : (hears : Bool) (held r : List KeyMsg) → keys_in (tracked r held) ≡ keys_in held
-    → Leaves None hears false held (keys_sent None hears false (keys_in held) ++ r)
-leaves_idle hears held r e =
+leaves_idle : (gets : Bool) (held r : List KeyMsg) → keys_in (tracked r held) ≡ keys_in held
+    → Leaves None gets false held (keys_sent None gets false (keys_in held) ++ r)
+leaves_idle gets held r e =
     ap (λ ks. keys_in (tracked (map key_cancelled ks ++ r) held)) (filter_none (λ k. false) (λ k. refl) (keys_in held))
     ∙ e ∙ sym (filter_all (λ k. true) (λ k. refl) (keys_in held))
 
@@ -184,37 +184,37 @@ abbrev pub RepeatHeld : List KeyArgs → Option Sent → ℕ → Type 0
 RepeatHeld old last w =
     (m : Sent) → last ≡ Some m → (w == m.channel) ≡ true → (m.key.key.down ≡ true) × (held_key old m.key.key.device m.key.key.scan ≡ Some m.key.key)
 
-leaves_repeat : (now w : ℕ) (hears : Bool) (held : List KeyMsg) (last : Option Sent) → Rising (keys_in held) → RepeatHeld (keys_in held) last w
-    → Leaves None hears false held (keys_sent None hears false (keys_in held) ++ repeat_sent (Pump now) Repeated last w)
-leaves_repeat now w hears held None r f = leaves_idle hears held [] refl
-leaves_repeat now w hears held (Some m) r f = by_channel (w == m.channel) (f m refl)
+leaves_repeat : (now w : ℕ) (gets : Bool) (held : List KeyMsg) (last : Option Sent) → Rising (keys_in held) → RepeatHeld (keys_in held) last w
+    → Leaves None gets false held (keys_sent None gets false (keys_in held) ++ repeat_sent (Pump now) Repeated last w)
+leaves_repeat now w gets held None r f = leaves_idle gets held [] refl
+leaves_repeat now w gets held (Some m) r f = by_channel (w == m.channel) (f m refl)
   where
     by_channel : (b : Bool) → (b ≡ true → (m.key.key.down ≡ true) × (held_key (keys_in held) m.key.key.device m.key.key.scan ≡ Some m.key.key))
-        → Leaves None hears false held (keys_sent None hears false (keys_in held) ++ cond b (repeated m.key ∷ []) [])
+        → Leaves None gets false held (keys_sent None gets false (keys_in held) ++ cond b (repeated m.key ∷ []) [])
     by_channel true g =
         let q = g refl in
-        leaves_idle hears held (repeated m.key ∷ [])
+        leaves_idle gets held (repeated m.key ∷ [])
         (ap (λ b. keys_in (cond b (keep (repeated m.key) held) (forget (repeated m.key) held))) q.0 ∙ keep_same (repeated m.key) held r q.1)
-    by_channel false g = leaves_idle hears held [] refl
+    by_channel false g = leaves_idle gets held [] refl
 
-pub leaves_pump : (now w : ℕ) (answer : Reply) (ws : List Args) (hears : Bool) (held : List KeyMsg) (last : Option Sent) (due : Option ℕ) (at : ℕ)
+pub leaves_pump : (now w : ℕ) (answer : Reply) (ws : List Args) (gets : Bool) (held : List KeyMsg) (last : Option Sent) (due : Option ℕ) (at : ℕ)
     → answer ≡ pump_reply ws due at → NewKey (args_of (Pump now) answer ws) (keys_in held) → Rising (keys_in held)
     → (is_due due at ≡ true → RepeatHeld (keys_in held) last w)
-    → Leaves (args_of (Pump now) answer ws) hears false held (keys_sent (args_of (Pump now) answer ws) hears false (keys_in held) ++ repeat_sent (Pump now) answer last w)
-leaves_pump now w answer (a ∷ ws) hears held last due at r new up f =
+    → Leaves (args_of (Pump now) answer ws) gets false held (keys_sent (args_of (Pump now) answer ws) gets false (keys_in held) ++ repeat_sent (Pump now) answer last w)
+leaves_pump now w answer (a ∷ ws) gets held last due at r new up f =
     subst
     (λ v. NewKey (args_of (Pump now) v (a ∷ ws)) (keys_in held)
-    → Leaves (args_of (Pump now) v (a ∷ ws)) hears false held (keys_sent (args_of (Pump now) v (a ∷ ws)) hears false (keys_in held) ++ repeat_sent (Pump now) v last w))
-    (sym r) (λ g. leaves_alone (Some a) hears false held (no_loss (Some a)) g) new
-leaves_pump now w answer [] hears held last due at r new up f = by_due (cases_Bool (is_due due at))
+    → Leaves (args_of (Pump now) v (a ∷ ws)) gets false held (keys_sent (args_of (Pump now) v (a ∷ ws)) gets false (keys_in held) ++ repeat_sent (Pump now) v last w))
+    (sym r) (λ g. leaves_alone (Some a) gets false held (no_loss (Some a)) g) new
+leaves_pump now w answer [] gets held last due at r new up f = by_due (cases_Bool (is_due due at))
   where
     by_due : (is_due due at ≡ true) ⊎ (is_due due at ≡ false)
-        → Leaves (args_of (Pump now) answer []) hears false held (keys_sent (args_of (Pump now) answer []) hears false (keys_in held) ++ repeat_sent (Pump now) answer last w)
+        → Leaves (args_of (Pump now) answer []) gets false held (keys_sent (args_of (Pump now) answer []) gets false (keys_in held) ++ repeat_sent (Pump now) answer last w)
     by_due (inl y) =
         let e : answer ≡ Repeated = r ∙ ap (λ b. cond b Repeated Idle) y in
-        subst (λ v. Leaves (args_of (Pump now) v []) hears false held (keys_sent (args_of (Pump now) v []) hears false (keys_in held) ++ repeat_sent (Pump now) v last w)) (sym e)
-        (leaves_repeat now w hears held last up (f y))
+        subst (λ v. Leaves (args_of (Pump now) v []) gets false held (keys_sent (args_of (Pump now) v []) gets false (keys_in held) ++ repeat_sent (Pump now) v last w)) (sym e)
+        (leaves_repeat now w gets held last up (f y))
     by_due (inr n) =
         let e : answer ≡ Idle = r ∙ ap (λ b. cond b Repeated Idle) n in
-        subst (λ v. Leaves (args_of (Pump now) v []) hears false held (keys_sent (args_of (Pump now) v []) hears false (keys_in held) ++ repeat_sent (Pump now) v last w)) (sym e)
-        (leaves_idle hears held [] refl)
+        subst (λ v. Leaves (args_of (Pump now) v []) gets false held (keys_sent (args_of (Pump now) v []) gets false (keys_in held) ++ repeat_sent (Pump now) v last w)) (sym e)
+        (leaves_idle gets held [] refl)

@@ -126,11 +126,11 @@ abbrev pub NewKey : Option Args → List KeyArgs → Type 0
 NewKey o old = (k : KeyArgs) → goes_down o ≡ Some k → held_key old k.device k.scan ≡ None
 
 -- the keys after a step
-abbrev pub next_keys : Option Args → (hears loses : Bool) → List KeyArgs → List KeyArgs
-next_keys o hears loses old = key_given (goes_down o) hears (cond loses [] (filter (λ k. not (ends o k)) old))
+abbrev pub next_keys : Option Args → (gets loses : Bool) → List KeyArgs → List KeyArgs
+next_keys o gets loses old = key_given (goes_down o) gets (cond loses [] (filter (λ k. not (ends o k)) old))
 
-rising_step : (o : Option Args) (hears loses : Bool) (old : List KeyArgs) → NewKey o old → Rising old → Rising (next_keys o hears loses old)
-rising_step o hears loses old new r = by_given (goes_down o) refl hears (left loses)
+rising_step : (o : Option Args) (gets loses : Bool) (old : List KeyArgs) → NewKey o old → Rising old → Rising (next_keys o gets loses old)
+rising_step o gets loses old new r = by_given (goes_down o) refl gets (left loses)
   where
     left : (b : Bool) → Rising (cond b [] (filter (λ k. not (ends o k)) old))
     left true = tt

@@ -18,7 +18,7 @@ use Rattle.dispatch_history.specs.History.{clock, live, repeats_of}
 use Rattle.dispatch_history.specs.Queue.{inbound, args_of}
 use Rattle.dispatch_history.specs.Effect.{Effect, past_of}
 use Rattle.dispatch_history.specs.Focus.{is_target, key_target}
-use Rattle.dispatch_history.specs.Delivery.{able, names, is_named_by}
+use Rattle.dispatch_history.specs.Delivery.{able, reports, is_reported_by}
 use Rattle.dispatch_history.specs.Due.{mask_of, named}
 use Rattle.dispatch_history.specs.Keys.{same_key, loses_all, keys}
 use Rattle.dispatch_history.specs.KeySent.{key_as_is, key_cancelled, keys_sent, last_key, while_held, repeat_due, repeat_sent}
@@ -119,42 +119,42 @@ one_test false h true m = refl
 one_test false h false m = refl
 
 -- what a dispatch sends to the key target
-dispatched_sent : (now w : ℕ) (a : Args) (hears stays : Bool) (held : List KeyMsg) (last : Option Sent)
-    → keys_sent (Some a) hears false (keys_in held) ++ [] ≡ target_sent (Pump now) Dispatched (Some a) w hears stays held last
-dispatched_sent now w (MotionArgs m) hears stays held last = all_sent false held
-dispatched_sent now w (Reset d) hears stays held last = append-nil (map key_cancelled (filter (λ k. d == k.device) (keys_in held))) ∙ device_cancels_of d held
-dispatched_sent now w (KeyOfDevice k) hears stays held last =
-    append-nil (keys_sent (Some (KeyOfDevice k)) hears false (keys_in held))
-    ∙ one_test k.down hears (list_any (same_key k) (keys_in held)) (record { key = k; flags = 0; repeat = 0 })
-    ∙ ap (λ b. one_sent (cond (cond k.down hears b) (Some (record { key = k; flags = 0; repeat = 0 })) None)) (any_in (same_key k) held)
+dispatched_sent : (now w : ℕ) (a : Args) (gets stays : Bool) (held : List KeyMsg) (last : Option Sent)
+    → keys_sent (Some a) gets false (keys_in held) ++ [] ≡ target_sent (Pump now) Dispatched (Some a) w gets stays held last
+dispatched_sent now w (MotionArgs m) gets stays held last = all_sent false held
+dispatched_sent now w (Reset d) gets stays held last = append-nil (map key_cancelled (filter (λ k. d == k.device) (keys_in held))) ∙ device_cancels_of d held
+dispatched_sent now w (KeyOfDevice k) gets stays held last =
+    append-nil (keys_sent (Some (KeyOfDevice k)) gets false (keys_in held))
+    ∙ one_test k.down gets (list_any (same_key k) (keys_in held)) (record { key = k; flags = 0; repeat = 0 })
+    ∙ ap (λ b. one_sent (cond (cond k.down gets b) (Some (record { key = k; flags = 0; repeat = 0 })) None)) (any_in (same_key k) held)
 
-pump_sent : (now w : ℕ) (answer : Reply) (ws : List Args) (hears stays : Bool) (held : List KeyMsg) (last kept : Option Sent) (due : Option ℕ) (at : ℕ)
+pump_sent : (now w : ℕ) (answer : Reply) (ws : List Args) (gets stays : Bool) (held : List KeyMsg) (last kept : Option Sent) (due : Option ℕ) (at : ℕ)
     → answer ≡ pump_reply ws due at
-    → (is_due due at ≡ true → repeat_sent (Pump now) Repeated last w ≡ target_sent (Pump now) Repeated None w hears stays held kept)
-    → keys_sent (args_of (Pump now) answer ws) hears false (keys_in held) ++ repeat_sent (Pump now) answer last w
-    ≡ target_sent (Pump now) answer (args_of (Pump now) answer ws) w hears stays held kept
-pump_sent now w answer (a ∷ ws) hears stays held last kept due at r f =
+    → (is_due due at ≡ true → repeat_sent (Pump now) Repeated last w ≡ target_sent (Pump now) Repeated None w gets stays held kept)
+    → keys_sent (args_of (Pump now) answer ws) gets false (keys_in held) ++ repeat_sent (Pump now) answer last w
+    ≡ target_sent (Pump now) answer (args_of (Pump now) answer ws) w gets stays held kept
+pump_sent now w answer (a ∷ ws) gets stays held last kept due at r f =
     subst
-    (λ v. keys_sent (args_of (Pump now) v (a ∷ ws)) hears false (keys_in held) ++ repeat_sent (Pump now) v last w
-    ≡ target_sent (Pump now) v (args_of (Pump now) v (a ∷ ws)) w hears stays held kept)
-    (sym r) (dispatched_sent now w a hears stays held kept)
-pump_sent now w answer [] hears stays held last kept due at r f = by_due (cases_Bool (is_due due at))
+    (λ v. keys_sent (args_of (Pump now) v (a ∷ ws)) gets false (keys_in held) ++ repeat_sent (Pump now) v last w
+    ≡ target_sent (Pump now) v (args_of (Pump now) v (a ∷ ws)) w gets stays held kept)
+    (sym r) (dispatched_sent now w a gets stays held kept)
+pump_sent now w answer [] gets stays held last kept due at r f = by_due (cases_Bool (is_due due at))
   where
-    idle : (ms : List KeyMsg) → keys_sent None hears false (keys_in held) ++ ms ≡ ms
+    idle : (ms : List KeyMsg) → keys_sent None gets false (keys_in held) ++ ms ≡ ms
     idle ms = ap (λ ks. map key_cancelled ks ++ ms) (filter_none (λ k. false) (λ k. refl) (keys_in held))
 
     by_due : (is_due due at ≡ true) ⊎ (is_due due at ≡ false)
-        → keys_sent (args_of (Pump now) answer []) hears false (keys_in held) ++ repeat_sent (Pump now) answer last w
-        ≡ target_sent (Pump now) answer (args_of (Pump now) answer []) w hears stays held kept
+        → keys_sent (args_of (Pump now) answer []) gets false (keys_in held) ++ repeat_sent (Pump now) answer last w
+        ≡ target_sent (Pump now) answer (args_of (Pump now) answer []) w gets stays held kept
     by_due (inl y) =
         subst
-        (λ v. keys_sent (args_of (Pump now) v []) hears false (keys_in held) ++ repeat_sent (Pump now) v last w
-        ≡ target_sent (Pump now) v (args_of (Pump now) v []) w hears stays held kept)
+        (λ v. keys_sent (args_of (Pump now) v []) gets false (keys_in held) ++ repeat_sent (Pump now) v last w
+        ≡ target_sent (Pump now) v (args_of (Pump now) v []) w gets stays held kept)
         (sym (r ∙ ap (λ b. cond b Repeated Idle) y)) (idle (repeat_sent (Pump now) Repeated last w) ∙ f y)
     by_due (inr n) =
         subst
-        (λ v. keys_sent (args_of (Pump now) v []) hears false (keys_in held) ++ repeat_sent (Pump now) v last w
-        ≡ target_sent (Pump now) v (args_of (Pump now) v []) w hears stays held kept)
+        (λ v. keys_sent (args_of (Pump now) v []) gets false (keys_in held) ++ repeat_sent (Pump now) v last w
+        ≡ target_sent (Pump now) v (args_of (Pump now) v []) w gets stays held kept)
         (sym (r ∙ ap (λ b. cond b Repeated Idle) n)) (idle [])
 
 pub repeat_read : RepeatRead
@@ -211,7 +211,7 @@ target_sent_law ds call answer es w held last l t n k r = by_call call n (lawful
     lost : (loses b : Bool) → loses ≡ b → keys_sent None (is_target (past_of es) w && able es w) loses (keys es w) ++ [] ≡ cond b (keys_cancelled held) []
     lost loses b e = ap₂ (λ c ks. map key_cancelled (cond c ks (filter (λ k. false) ks)) ++ []) e (sym k.keys_are) ∙ all_sent b held
 
-    moved : (c : Call) → names ((c, answer) ∷ past_of es) w ≡ false → live ((c, answer) ∷ past_of es) w ≡ true
+    moved : (c : Call) → reports ((c, answer) ∷ past_of es) w ≡ false → live ((c, answer) ∷ past_of es) w ≡ true
         → keys_sent None (is_target (past_of es) w && able es w) (loses_all ((c, answer) ∷ past_of es) (past_of es) w) (keys es w) ++ []
         ≡ cond (is_target ((c, answer) ∷ past_of es) w) [] (keys_cancelled held)
     moved c f m =
@@ -236,7 +236,7 @@ target_sent_law ds call answer es w held last l t n k r = by_call call n (lawful
         let mask = mask_of (named es now) in
         subst
         (λ v. keys_sent None (is_target (past_of es) w && able es w)
-        (is_target (past_of es) w && not (is_target (past_of es) w) || is_named_by (Tick now) v w || not (live (past_of es) w)) (keys es w) ++ []
+        (is_target (past_of es) w && not (is_target (past_of es) w) || is_reported_by (Tick now) v w || not (live (past_of es) w)) (keys es w) ++ []
         ≡ target_sent (Tick now) v None w (able es w) (is_target (past_of es) w) held last)
         (sym p.0)
         (lost (is_target (past_of es) w && not (is_target (past_of es) w) || mask_has mask w || not (live (past_of es) w)) (mask_has mask w)

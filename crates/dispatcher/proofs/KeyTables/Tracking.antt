@@ -53,11 +53,11 @@ newest_last d s m (x ∷ past) e q = by_body x.body e (λ f. newest_last d s m p
 -- a window that is not live holds no key
 pub dead_keys : (ds : List ℕ) (es : List Effect) (w : ℕ) → Lawful ds es → live (past_of es) w ≡ false → keys es w ≡ []
 dead_keys ds es w l n =
-    keys_of_target ds es w l (hears_not (is_target (past_of es) w) (live (past_of es) w) (unresponsive es w) n)
+    keys_of_target ds es w l (gets_not (is_target (past_of es) w) (live (past_of es) w) (unresponsive es w) n)
   where
-    hears_not : (t l u : Bool) → l ≡ false → (t && (l && not u)) ≡ false
-    hears_not true l u e = ap (λ x. x && not u) e
-    hears_not false l u e = refl
+    gets_not : (t l u : Bool) → l ≡ false → (t && (l && not u)) ≡ false
+    gets_not true l u e = ap (λ x. x && not u) e
+    gets_not false l u e = refl
 
 -- the window of a last key message that is kept holds the key
 pub kept_held : (ds : List ℕ) (es : List Effect) (m : Sent) → Lawful ds es → last_key es ≡ Some m → list_any (same_key m.key.key) (keys es m.channel) ≡ true
@@ -113,8 +113,8 @@ pump_stays true l e = ap not e
 pump_stays false l e = ap not e
 
 -- the same of the keys of a window in place of those that are kept
-abbrev Ends : (hears : Bool) → List KeyMsg → Option Args → (loses : Bool) → List KeyMsg → List KeyArgs → Type 0
-Ends hears held o loses r old = keys_in (tracked (keys_sent o hears loses old ++ r) held) ≡ next_keys o hears loses old
+abbrev Ends : (gets : Bool) → List KeyMsg → Option Args → (loses : Bool) → List KeyMsg → List KeyArgs → Type 0
+Ends gets held o loses r old = keys_in (tracked (keys_sent o gets loses old ++ r) held) ≡ next_keys o gets loses old
 
 -- one step of a legal history
 keys_next : (ds : List ℕ) (call : Call) (answer : Reply) (h : History) (w : ℕ) (held : List KeyMsg) → Legal ds ((call, answer) ∷ h)

@@ -7,7 +7,7 @@ use Rattle.input_types.specs.declared.key.KeyMsg.{KeyMsg}
 use Rattle.input_types.specs.declared.message.Args.{Args}
 use Rattle.input_types.specs.declared.message.Args.TheVariants.{Key, Reset}
 use Rattle.dispatcher.specs.CancelSynthesis.Tracked.{Tracked}
-use Rattle.dispatcher.specs.InboundArgs.Kept.{Kept as Down}
+use Rattle.dispatcher.specs.InboundArgs.Kept.{DownSets as Down}
 use Rattle.dispatcher.specs.InputChannel.State.{opened_with}
 use Rattle.key_repeat.specs.Due.{Sent}
 use Rattle.route_split.specs.Tables.{no_table}

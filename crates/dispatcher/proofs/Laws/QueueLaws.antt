@@ -4,7 +4,7 @@ use Rattle.std.proofs.lemmas.Bool.{cases_cond}
 use Rattle.std.proofs.lemmas.List.{reverse-append, length-reverse, drop-append-le}
 use Rattle.input_types.specs.declared.message.Args.{Args}
 use Rattle.input_types.specs.DeviceRule.{after_args, device_of}
-use Rattle.dispatcher.specs.InboundArgs.Kept.{Kept}
+use Rattle.dispatcher.specs.InboundArgs.Kept.{DownSets}
 use Rattle.dispatcher.specs.InboundArgs.Down.{DevicesStandFor}
 use Rattle.dispatcher.proofs.InboundArgs.Accepting.{accepts}
 use Rattle.dispatch_calls.specs.declared.call.Call.{Call}
@@ -102,14 +102,14 @@ waits_step es (Remove now channel) answer r few = refl
 
 -- ---- what is down
 
-down_notified : (acc : List Args) (old new : List Kept) (now : ℕ) (a : Args) (c : Bool) (x : ℕ) (y : Bool) (answer : Reply) → DevicesStandFor acc old
+down_notified : (acc : List Args) (old new : List DownSets) (now : ℕ) (a : Args) (c : Bool) (x : ℕ) (y : Bool) (answer : Reply) → DevicesStandFor acc old
     → answer ≡ cond c Taken (Inconsistent x y) → DownGoes (Notify now a) answer old new → DevicesStandFor (accepted_after (Notify now a) answer acc) new
 down_notified acc old new now a true x y answer stands r goes =
     let by = rw r at goes in rw r (accepts acc a by.0 old new stands by.1 by.2)
 down_notified acc old new now a false x y answer stands r goes =
     let same : new ≡ old = rw r at goes in rw (r, same) stands
 
-down_step : (es : List Effect) (call : Call) (answer : Reply) (old new : List Kept) → answer ≡ reply_to es call → DevicesStandFor (accepted (past_of es)) old
+down_step : (es : List Effect) (call : Call) (answer : Reply) (old new : List DownSets) → answer ≡ reply_to es call → DevicesStandFor (accepted (past_of es)) old
     → DownGoes call answer old new → DevicesStandFor (accepted_after call answer (accepted (past_of es))) new
 down_step es (Notify now a) answer old new r stands goes =
     let s = down_on (past_of es) (device_of a) in

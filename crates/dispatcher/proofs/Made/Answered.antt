@@ -24,7 +24,7 @@ use Rattle.dispatcher.specs.Memory.{MayCount}
 use Rattle.dispatcher.specs.Queue.{Queue}
 use Rattle.dispatcher.specs.Queueing.{args_in, stepped, with_pumps}
 use Rattle.dispatcher.specs.Roomy.{HasPumpRoom, KeepsPromise}
-use Rattle.dispatcher.specs.Tables.{TablesStandFor, LetsNoneGo, Goes, GoesOn, HandsOn, MayStep, SameAll, SameButRoom, is_routed}
+use Rattle.dispatcher.specs.Tables.{TablesStandFor, ReleasesNone, Goes, GoesOn, HandsOn, MayStep, SameAll, SameButRoom, is_routed}
 use Rattle.dispatcher.proofs.Made.Applying.{seen, raw, bare, seen_same}
 use Rattle.dispatcher.proofs.Room.Rooms.{channel_bare}
 use Rattle.dispatcher.proofs.Room.Roomy.{same_room}
@@ -35,7 +35,7 @@ use Rattle.dispatcher.proofs.Laws.Stepped.{handed_after, passed_on}
 pub record Makes (call : Call) (old new : Tables) : Type 0 where
   pub after : (es : List Effect) → TablesStandFor es old → TablesStandFor (answered old.routing.displays call es) new
   pub displays_are : new.routing.displays ≡ old.routing.displays
-  pub gone_are : LetsNoneGo old.routing.channels new.routing.channels
+  pub gone_are : ReleasesNone old.routing.channels new.routing.channels
   pub room_is : old.queueing.spare ≤ new.queueing.spare + args_in call
 
 -- a call is answered as the history says
@@ -67,7 +67,7 @@ handed old later new c n zero_is is g =
     }
 
 -- of each channel as many messages were released, seen with its room or without
-gone_seen : (old new : Tables) → LetsNoneGo old.routing.channels new.routing.channels
+gone_seen : (old new : Tables) → ReleasesNone old.routing.channels new.routing.channels
     → (c : ℕ) → 1 ≤ c → gone (seen new) c ≡ gone (seen old) c
 gone_seen old new none c low =
     ap (λ s. s.gone) (channel_bare new.routing.channels c)

@@ -2,7 +2,7 @@
 use Rattle.std.proofs.Common.{◌≡◌, ℕ, max, Bool, true, false, not, nat_lt, cond, List, ◌-◌, None, refl, sym, ap, ◌∙◌, subst, lit<, if◌then◌else◌}
 use Rattle.std.proofs.lemmas.List.{set-get_or}
 use Rattle.window_snapshot.specs.Mask.{mask_has}
-use Rattle.dispatcher.specs.InputChannel.State.{ChannelState, opened_with, may_finish, received_one, passed}
+use Rattle.dispatcher.specs.InputChannel.State.{ChannelState, opened_with, may_finish, received_one, received_uncopied}
 use Rattle.dispatch_calls.specs.declared.call.Call.{Call}
 use Rattle.dispatch_calls.specs.declared.call.Call.TheVariants.{Receive, Finish, Remove, Tick}
 use Rattle.dispatch_calls.specs.declared.reply.Reply.{Reply}
@@ -79,7 +79,7 @@ hands_gone c old gone =
 
 -- that of a live channel has one more, where one is published that it did not receive
 pub hands_live : (c : ℕ) (old : Routing) (u : Table) → mask_has old.channels.live c ≡ true
-    → u ≡ with_channel c (passed (channel_of old.channels c)) old.channels
+    → u ≡ with_channel c (received_uncopied (channel_of old.channels c)) old.channels
     → HandsOn c old (record old { channels = u })
 hands_live c old u lives is =
     record {

@@ -21,10 +21,10 @@ use Rattle.dispatch_calls.specs.declared.reply.Reply.TheVariants.{Opened, Full}
 use Rattle.dispatch_history.specs.Reply.{open_reply}
 use Rattle.dispatcher.proofs.DispatchChannels.Picking.{mask_has-and, channel_low}
 use Rattle.dispatcher.specs.DispatchChannels.Table.{Table, opened, channel_of, input_of}
-use Rattle.dispatcher.specs.DispatchChannels.Changes.{Opens, new_channel}
+use Rattle.dispatcher.specs.DispatchChannels.Changes.{OpensChannel, new_channel}
 use Rattle.dispatcher.specs.declared.dispatch_round.round.Round.{Round}
 use Rattle.dispatcher.specs.DispatchRound.Bodies.{keys_to}
-use Rattle.dispatcher.specs.DispatchRound.Rounds.{may_hear, keyed, is_concerned, count_of, most_motions, most_bodies, HasRoom, IsReady, IsTimely, sent_in}
+use Rattle.dispatcher.specs.DispatchRound.Rounds.{may_reach, keyed, is_concerned, count_of, most_motions, most_bodies, HasRoom, IsReady, IsTimely, sent_in}
 use Rattle.dispatcher.specs.DispatchRound.Outgoing.{SendsAll}
 use Rattle.dispatcher.specs.Shown.{ShownGoes}
 use Rattle.dispatcher.specs.Sending.{Refocuses, AreKeys, SendsFocus, sent_target}
@@ -67,7 +67,7 @@ concerned_one : (ts : List Touches) (r : Round) (target number gained w : ℕ) �
 concerned_one ts r target number gained w is h =
     let g = bit_and gained (mask_with 0 number) in
     let E : Mark → Option Motion → List KeyMsg → ℕ → ℕ → Bool =
-    λ m o ks l n. may_hear ts m o r.watchers w || mask_has (keyed ks r.target) w || mask_has l w || mask_has n w in
+    λ m o ks l n. may_reach ts m o r.watchers w || mask_has (keyed ks r.target) w || mask_has l w || mask_has n w in
     let plain : is_concerned ts r w ≡ E NoOp None [] 0 g =
     ap (λ m. E m (option_copied r.motion) r.keys.now r.lost r.gained) is.mark_is
     ∙ ap (λ o. E NoOp o r.keys.now r.lost r.gained) is.motion_is
@@ -102,7 +102,7 @@ ready_welcome ts r t target number gained is room w lives h =
         record { room = omega (arith, few, room.room); track_room = omega (arith, few, room.track_room) }
 
 -- a new channel has room for a message
-pub welcome : (terms : Terms) (number : ℕ) (t p : Table) → Opens terms number t p → IsWelcome number p
+pub welcome : (terms : Terms) (number : ℕ) (t p : Table) → OpensChannel terms number t p → IsWelcome number p
 welcome terms number t p h =
     let at : number - 1 ≡ length t.channels = omega (arith, h.number_is) in
     let there : channel_of p number ≡ new_channel terms =
@@ -115,7 +115,7 @@ welcome terms number t p h =
 
 -- nothing was delivered to it
 pub timely_opened : (terms : Terms) (number clock : ℕ) (t p : Table)
-    → Opens terms number t p → IsTimely clock t → IsTimely clock p
+    → OpensChannel terms number t p → IsTimely clock t → IsTimely clock p
 timely_opened terms number clock t p h timely c lives =
     let o = opens_law terms number t p h in
     elim (cases_eq number c) [
@@ -152,7 +152,7 @@ target_at o t e = ap (λ x. unwrap_or x 0) e
 
 -- a channel is opened
 pub opens_goes : (terms : Terms) (number place clock : ℕ) (old new : Routing) (p : Table)
-    → Opens terms number old.channels p
+    → OpensChannel terms number old.channels p
     → Welcomes number place clock (record old { channels = p }) new
     → Goes (λ now. Open terms) (Opened number) place clock old new
 opens_goes terms number place clock old new p h w =

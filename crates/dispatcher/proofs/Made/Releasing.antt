@@ -22,10 +22,10 @@ use Rattle.dispatcher.proofs.Room.Rooms.{channel_bare}
 use Rattle.dispatch_history.specs.History.{no_terms}
 
 -- the tables stand for what they stood for, where a channel keeps what it kept but for messages that may be released
-lets_go : (es : List Effect) (old : Tables) (u : Table) (c : ℕ) (s : ChannelState) → TablesStandFor es old → 1 ≤ c → c ≤ opened old.routing.channels
+releases : (es : List Effect) (old : Tables) (u : Table) (c : ℕ) (s : ChannelState) → TablesStandFor es old → 1 ≤ c → c ≤ opened old.routing.channels
     → Holds es c s → u ≡ with_channel c s old.routing.channels
     → TablesStandFor es (record old { routing = record old.routing { channels = u } })
-lets_go es old u c s stands low high keeps is =
+releases es old u c s stands low high keeps is =
     let r = old.routing in
     let new : Routing = record r { channels = u } in
     (release_law r.displays es (kept old.queueing r) (kept old.queueing new) r.channels u c s stands
@@ -43,7 +43,7 @@ pub release_stands : (es : List Effect) (old : Tables) (u : Table) (c : ℕ) →
     → u ≡ with_channel c (release_of (channel_of old.routing.channels c)) old.routing.channels
     → TablesStandFor es (record old { routing = record old.routing { channels = u } })
 release_stands es old u c stands low high is =
-    lets_go es old u c (release_of (channel_of old.routing.channels c)) stands low high
+    releases es old u c (release_of (channel_of old.routing.channels c)) stands low high
     (held_less old.routing.displays es c (channel_of old.routing.channels c) stands.lawful (stands.knows.delivery.keeps c low high)).0
     is
 
@@ -52,7 +52,7 @@ pub each_go_stands : (es : List Effect) (old : Tables) (u : Table) (c : ℕ) →
     → u ≡ with_channel c (each_released (channel_of old.routing.channels c)) old.routing.channels
     → TablesStandFor es (record old { routing = record old.routing { channels = u } })
 each_go_stands es old u c stands low high is =
-    lets_go es old u c (each_released (channel_of old.routing.channels c)) stands low high
+    releases es old u c (each_released (channel_of old.routing.channels c)) stands low high
     (held_less old.routing.displays es c (channel_of old.routing.channels c) stands.lawful (stands.knows.delivery.keeps c low high)).2
     is
 
@@ -60,7 +60,7 @@ pub all_go_stands : (es : List Effect) (old : Tables) (u : Table) (c : ℕ) → 
     → u ≡ with_channel c (all_released (channel_of old.routing.channels c)) old.routing.channels
     → TablesStandFor es (record old { routing = record old.routing { channels = u } })
 all_go_stands es old u c stands low high is =
-    lets_go es old u c (all_released (channel_of old.routing.channels c)) stands low high
+    releases es old u c (all_released (channel_of old.routing.channels c)) stands low high
     (held_less old.routing.displays es c (channel_of old.routing.channels c) stands.lawful (stands.knows.delivery.keeps c low high)).3
     is
 

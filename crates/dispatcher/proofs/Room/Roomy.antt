@@ -125,12 +125,12 @@ most_room n list r t roomy modest w lives =
     record { room = omega (arith, had.room, outgoing); track_room = omega (arith, had.track_room, outgoing) }
 
 -- what a round leaves
-pub round_roomy : (n list outgoing : ℕ) (r : Round) (t m u : Table) → IsRoomy (suc n) list t → AreModest r.target r.keys.now t
+pub room_after_round : (n list outgoing : ℕ) (r : Round) (t m u : Table) → IsRoomy (suc n) list t → AreModest r.target r.keys.now t
     → but_for_room m ≡ but_for_room t → NoLessRoom t m → ((w : ℕ) → mask_has outgoing w ≡ true → IsFew r m w)
     → ((w : ℕ) → mask_has outgoing w ≡ true → Spends r w m u) → ((w : ℕ) → 1 ≤ w → mask_has outgoing w ≡ false → IsLeft m u w)
     → u.live ≡ m.live → IsRoomy n list u
-round_roomy n list outgoing r t m u roomy modest same more few spends left live c lives =
-    elim (cases_Bool (mask_has outgoing c)) [ inl y ↦ heard y | inr out ↦ quiet out ]
+room_after_round n list outgoing r t m u roomy modest same more few spends left live c lives =
+    elim (cases_Bool (mask_has outgoing c)) [ inl y ↦ was_sent y | inr out ↦ quiet out ]
   where
     alive : mask_has t.live c ≡ true
     alive = ap (λ l. mask_has l c) (sym (live ∙ ap (λ x. x.live) same)) ∙ lives
@@ -141,8 +141,8 @@ round_roomy n list outgoing r t m u roomy modest same more few spends left live 
     keys : (input_of m c).keys ≡ (input_of t c).keys
     keys = keys_same t m c same
 
-    heard : mask_has outgoing c ≡ true → HasRoomFor n list (channel_of u c) (input_of u c)
-    heard y =
+    was_sent : mask_has outgoing c ≡ true → HasRoomFor n list (channel_of u c) (input_of u c)
+    was_sent y =
         let ks = keys_to r.target r.keys.now c in
         let spent = spends c y in
         let many : length (input_of u c).keys ≡ length (bodies_tracked (map Key ks) (input_of t c).keys) =

@@ -36,7 +36,7 @@ use Rattle.dispatcher.specs.DispatchChannels.Table.{Table, channel_of, input_of,
 use Rattle.dispatcher.proofs.DispatchChannels.Picking.{channel_low}
 use Rattle.dispatcher.specs.declared.dispatch_round.round.Round.{Round}
 use Rattle.dispatcher.specs.DispatchRound.Bodies.{keys_to}
-use Rattle.dispatcher.specs.DispatchRound.Light.{most_moves, HasLight, SpendsLight}
+use Rattle.dispatcher.specs.DispatchRound.Steady.{most_moves, HasSteadyRoom, SpendsSteady}
 use Rattle.dispatcher.specs.DispatchRound.Rounds.{IsLeft}
 use Rattle.dispatcher.specs.WindowCovers.Covers.{IsGiftOf}
 use Rattle.dispatcher.specs.declared.tables.Routing.{Routing}
@@ -132,22 +132,22 @@ at_most : (o : Option Motion) → most_moves o ≤ 1
 at_most None = omega arith
 at_most (Some m) = omega arith
 
--- where there is room for pumps, there is room for a light round
-pub room_for_light : (n list : ℕ) (r : Round) (t : Table) → IsRoomy (suc n) list t → AreModest r.target r.keys.now t
-    → (w : ℕ) → mask_has t.live w ≡ true → HasLight r t w
-room_for_light n list r t roomy modest w lives =
+-- where there is room for pumps, there is room for a steady round
+pub room_for_steady_round : (n list : ℕ) (r : Round) (t : Table) → IsRoomy (suc n) list t → AreModest r.target r.keys.now t
+    → (w : ℕ) → mask_has t.live w ≡ true → HasSteadyRoom r t w
+room_for_steady_round n list r t roomy modest w lives =
     let had = roomy w lives in
     let outgoing = (modest.each w lives).with_them in
     let one : most_moves (option_copied r.motion) ≤ 1 = at_most (option_copied r.motion) in
     (omega (arith, had.room, outgoing, one), omega (arith, had.track_room, outgoing, one))
 
 -- and it leaves room for one pump less
-pub light_roomy : (n list outgoing : ℕ) (r : Round) (t m u : Table) → IsRoomy (suc n) list t → AreModest r.target r.keys.now t
+pub room_after_steady_round : (n list outgoing : ℕ) (r : Round) (t m u : Table) → IsRoomy (suc n) list t → AreModest r.target r.keys.now t
     → but_for_room m ≡ but_for_room t → NoLessRoom t m
-    → ((w : ℕ) → mask_has outgoing w ≡ true → SpendsLight r m u w) → ((w : ℕ) → 1 ≤ w → mask_has outgoing w ≡ false → IsLeft m u w)
+    → ((w : ℕ) → mask_has outgoing w ≡ true → SpendsSteady r m u w) → ((w : ℕ) → 1 ≤ w → mask_has outgoing w ≡ false → IsLeft m u w)
     → u.live ≡ m.live → IsRoomy n list u
-light_roomy n list outgoing r t m u roomy modest same more spends left live c lives =
-    elim (cases_Bool (mask_has outgoing c)) [ inl y ↦ heard y | inr out ↦ quiet out ]
+room_after_steady_round n list outgoing r t m u roomy modest same more spends left live c lives =
+    elim (cases_Bool (mask_has outgoing c)) [ inl y ↦ was_sent y | inr out ↦ quiet out ]
   where
     alive : mask_has t.live c ≡ true
     alive = ap (λ l. mask_has l c) (sym (live ∙ ap (λ x. x.live) same)) ∙ lives
@@ -158,8 +158,8 @@ light_roomy n list outgoing r t m u roomy modest same more spends left live c li
     keys : (input_of m c).keys ≡ (input_of t c).keys
     keys = keys_same t m c same
 
-    heard : mask_has outgoing c ≡ true → HasRoomFor n list (channel_of u c) (input_of u c)
-    heard y =
+    was_sent : mask_has outgoing c ≡ true → HasRoomFor n list (channel_of u c) (input_of u c)
+    was_sent y =
         let ks = keys_to r.target r.keys.now c in
         let spent = spends c y in
         let one : most_moves (option_copied r.motion) ≤ 1 = at_most (option_copied r.motion) in

@@ -74,7 +74,7 @@ past_on old later new m c now sent place clk none plan device rises p time at g 
             subst (λ t. Streams es (step old.routing.displays (Pump now) Dispatched es) m.device sent t new) time_then both.1,
           );
       displays_are = g.displays_are;
-      lets_go = g.lets_go;
+      releases = g.releases;
       anrs_are = g.anrs_are;
       room_is = omega (arith, same);
     }
@@ -100,7 +100,7 @@ sent_last : (old new : Tables) (now sent : ℕ) (m : Motion) (g : GoesPast now m
 sent_last old new now sent m g es s = record {
   streams_are = λ c low. both.1 c low ∙ ap (λ x. cond (mask_has sent c) (x ∷ stream es c) (stream es c)) (last c);
   gone_are = λ c low.
-      bare_gone new c ∙ g.lets_go c low ∙ ap (λ n. cond (mask_has sent c) (n + 1) n) (sym (bare_gone (record old { queueing = g.between }) c));
+      bare_gone new c ∙ g.releases c low ∙ ap (λ n. cond (mask_has sent c) (n + 1) n) (sym (bare_gone (record old { queueing = g.between }) c));
   all_gone = λ c y.
       let streams : stream later c ≡ last_moved later m.device (seen new) c ∷ stream es c =
       both.1 c (channel_low sent c y) ∙ ap (λ b. cond b (moved_last es m.device (max now g.between.clock) new.routing c ∷ stream es c) (stream es c)) y

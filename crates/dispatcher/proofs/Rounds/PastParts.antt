@@ -18,13 +18,13 @@ use Rattle.dispatcher.specs.InputChannel.State.{ChannelState, opened_with, sent,
 use Rattle.dispatcher.specs.WindowCovers.Covers.{cover_in, CoverTable}
 use Rattle.dispatcher.specs.DispatchTables.Channel.{Holds}
 use Rattle.dispatcher.specs.DispatchChannels.Table.{Table, opened, channel_of, input_of, channel_in}
-use Rattle.dispatcher.specs.DispatchChannels.Heard.{body_from}
+use Rattle.dispatcher.specs.DispatchChannels.FromOrigin.{body_from}
 use Rattle.dispatcher.specs.declared.dispatch_round.round.Round.{Round}
 use Rattle.dispatcher.specs.DispatchRound.Bodies.{keys_to, told}
-use Rattle.dispatcher.specs.DispatchRound.Light.{IsLight, moved, SpendsLight, most_light, most_moves}
+use Rattle.dispatcher.specs.DispatchRound.Steady.{IsSteady, moved, SpendsSteady, most_steady, most_moves}
 use Rattle.dispatcher.specs.DispatchRound.Past.{SpendsOne}
 use Rattle.dispatcher.specs.DispatchRound.Rounds.{IsRound, sent_in}
-use Rattle.dispatcher.proofs.DispatchRound.Lightly.{moves_by_rules, no_change}
+use Rattle.dispatcher.proofs.DispatchRound.Steadily.{moves_by_rules, no_change}
 use Rattle.dispatcher.proofs.DispatchRound.Telling.{told_one, no_flags}
 use Rattle.dispatcher.specs.Knows.{KeptStandsFor, Kept}
 use Rattle.input_types.specs.declared.message.Body.TheVariants.{Motion as MotionBody, Key}
@@ -96,21 +96,21 @@ no_keys r c none = by_test (c == r.target) r.keys.now none
     by_test false ks e = refl
 
 -- of a Move with which no pointer changes hands, and no keys, the rules say only that pointers move
-pub sent_moved : (covers : CoverTable) (ts : List Touches) (m : Motion) (r : Round) (s : Scene) (e : Step) (c : ℕ) → IsLight r
+pub sent_moved : (covers : CoverTable) (ts : List Touches) (m : Motion) (r : Round) (s : Scene) (e : Step) (c : ℕ) → IsSteady r
     → option_copied r.motion ≡ Some m → r.keys.now ≡ [] → 1 ≤ m.device → m.device ≤ 8 → IsChanged ts ts r.mark None → IsRound s e ts r
     → sent_in covers r s e c ≡ moved covers ts m c
-sent_moved covers ts m r s e c light opt none low high by h =
+sent_moved covers ts m r s e c steady opt none low high by h =
     ap₂ (λ (ms : List Motion) (ks : List KeyMsg). told covers c ms ++ map Key ks ++ change_sent (change_of r.lost r.gained c))
-    (sym (moves_by_rules m r ts ts s e c light opt low high by h)) (no_keys r c none)
+    (sym (moves_by_rules m r ts ts s e c steady opt low high by h)) (no_keys r c none)
     ∙ ap (λ bs. bs ++ change_sent (change_of r.lost r.gained c)) (append-nil (moved covers ts m c))
-    ∙ ap (λ o. moved covers ts m c ++ change_sent o) (no_change r.lost r.gained c light.lost_is light.gained_is)
+    ∙ ap (λ o. moved covers ts m c ++ change_sent o) (no_change r.lost r.gained c steady.lost_is steady.gained_is)
     ∙ append-nil (moved covers ts m c)
 
 -- and it takes room for one message at most
 pub spends_past : (r : Round) (m : Motion) (t u : Table) (c : ℕ) → option_copied r.motion ≡ Some m → r.keys.now ≡ [] → SpendsOne t u c
-    → SpendsLight r t u c
+    → SpendsSteady r t u c
 spends_past r m t u c opt none h =
-    let one : 1 ≤ most_light r c = subst (λ o. 1 ≤ most_moves o + length (keys_to r.target r.keys.now c)) (sym opt) (omega arith) in
+    let one : 1 ≤ most_steady r c = subst (λ o. 1 ≤ most_moves o + length (keys_to r.target r.keys.now c)) (sym opt) (omega arith) in
     record {
       room = omega (arith, h.room, one);
       track_room = omega (arith, h.track_room, one);

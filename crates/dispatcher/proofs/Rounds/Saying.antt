@@ -13,7 +13,7 @@ use Rattle.dispatch_history.specs.Said.{motion_from}
 use Rattle.dispatch_history.specs.Step.{marks}
 use Rattle.routing_rules.specs.Cover.{under_all}
 use Rattle.routing_rules.specs.Marks.{covered}
-use Rattle.dispatcher.specs.DispatchChannels.Heard.{body_from}
+use Rattle.dispatcher.specs.DispatchChannels.FromOrigin.{body_from}
 use Rattle.dispatcher.specs.KeyTables.Held.{key_messages}
 use Rattle.dispatcher.proofs.KeyTables.Saying.{said_parts}
 use Rattle.dispatcher.specs.Pointing.{mark_at}

@@ -23,10 +23,10 @@ use Rattle.dispatcher.proofs.DispatchTables.Going.{delivery_law}
 use Rattle.dispatcher.proofs.DispatchTables.Unopened.{not_live_said}
 use Rattle.dispatcher.specs.KeyTables.Focused.{FocusIs}
 use Rattle.dispatcher.specs.KeyTables.Repeats.{RepeatIs}
-use Rattle.dispatcher.specs.DispatchChannels.Heard.{body_from}
+use Rattle.dispatcher.specs.DispatchChannels.FromOrigin.{body_from}
 use Rattle.dispatcher.specs.DispatchChannels.Table.{Table, opened, channel_of, input_of}
 use Rattle.dispatcher.specs.DispatchRound.Bodies.{TracksAll}
-use Rattle.dispatcher.specs.DispatchRound.Outgoing.{SendsAll, heard, origin_at}
+use Rattle.dispatcher.specs.DispatchRound.Outgoing.{SendsAll, with_bodies, origin_at}
 use Rattle.dispatcher.specs.Covering.{CoversStep}
 use Rattle.dispatcher.specs.Queue.{QueueGoes}
 use Rattle.dispatcher.specs.Shown.{ShownGoes}
@@ -115,15 +115,15 @@ sends_goes ds call answer es k later outgoing t p u changed new o x =
     lives = lives_then ds call answer es later.queue.clock t p new lawful was x
 
     -- with the places counted from its origin, what a window is sent is what the step says to it
-    heard_is : (w : ℕ) → live (past_of later_es) w ≡ true → map (body_from (origin_at k.shown.origins w)) (outgoing w) ≡ said_at ds call answer es w
-    heard_is w y =
+    said_is : (w : ℕ) → live (past_of later_es) w ≡ true → map (body_from (origin_at k.shown.origins w)) (outgoing w) ≡ said_at ds call answer es w
+    said_is w y =
         let number = live_number ds later_es w lawful y in
         ap₂ (λ p bs. map (body_from p) bs) (o.stands.knows.shown.origins_are w number.0 number.2) (o.sent_is w y) ∙ sym (said_law ds call answer es w y)
 
     quiet : (w : ℕ) → mask_has changed w ≡ false → said_at ds call answer es w ≡ []
     quiet w n =
         elim (cases_Bool (live (past_of later_es) w)) [
-          | inl y ↦ sym (heard_is w y) ∙ ap (map (body_from (origin_at k.shown.origins w))) (o.sends.quiet w n (lives w ∙ y))
+          | inl y ↦ sym (said_is w y) ∙ ap (map (body_from (origin_at k.shown.origins w))) (o.sends.quiet w n (lives w ∙ y))
           | inr d ↦ not_live_said ds call answer es w d
         ]
 
@@ -138,8 +138,8 @@ sends_goes ds call answer es k later outgoing t p u changed new o x =
                 s.0,
                 s.1,
                 o.sends.changes c m
-                    ∙ ap (λ z. published_at later.queue.clock (heard (outgoing c) (origin_at k.shown.origins c) later.queue.clock z)) s.2
-                    ∙ ap (λ bs. published_at later.queue.clock (enqueued_all bs later.queue.clock (with_part (part_of call answer c) s.0))) (heard_is c alive)
+                    ∙ ap (λ z. published_at later.queue.clock (with_bodies (outgoing c) (origin_at k.shown.origins c) later.queue.clock z)) s.2
+                    ∙ ap (λ bs. published_at later.queue.clock (enqueued_all bs later.queue.clock (with_part (part_of call answer c) s.0))) (said_is c alive)
                     ∙ ap (λ n. published_at n (enqueued_all (said_at ds call answer es c) n (with_part (part_of call answer c) s.0))) at,
               )
           | inr n ↦

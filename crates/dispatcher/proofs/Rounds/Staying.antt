@@ -5,7 +5,7 @@ use Rattle.input_types.specs.declared.message.Body.{Body}
 use Rattle.window_snapshot.specs.Mask.{mask_has}
 use Rattle.dispatcher.specs.InputChannel.State.{ChannelState, enqueued}
 use Rattle.dispatcher.specs.DispatchTables.Channel.{enqueued_all}
-use Rattle.dispatcher.specs.DispatchChannels.Heard.{body_from}
+use Rattle.dispatcher.specs.DispatchChannels.FromOrigin.{body_from}
 use Rattle.dispatcher.specs.DispatchChannels.Table.{channel_of}
 use Rattle.dispatcher.specs.DispatchRound.Outgoing.{origin_at}
 use Rattle.dispatcher.specs.RoundLaws.{GoneLaw}

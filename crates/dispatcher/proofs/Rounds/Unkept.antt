@@ -31,36 +31,36 @@ use Rattle.dispatcher.specs.KeyTables.Repeats.{repeat_after}
 use Rattle.dispatcher.specs.WindowCovers.Covers.{cover_in}
 use Rattle.dispatcher.specs.DispatchTables.Channel.{Holds}
 use Rattle.dispatcher.specs.DispatchChannels.Table.{Table, opened, channel_of, input_of, but_for_room, NoLessRoom}
-use Rattle.dispatcher.specs.DispatchChannels.Heard.{body_from}
+use Rattle.dispatcher.specs.DispatchChannels.FromOrigin.{body_from}
 use Rattle.dispatcher.proofs.DispatchChannels.Picking.{channel_low, channel_high}
 use Rattle.dispatcher.specs.declared.dispatch_round.round.Round.{Round}
 use Rattle.dispatcher.specs.DispatchRound.Bodies.{TracksAll}
-use Rattle.dispatcher.specs.DispatchRound.Light.{IsLight, moved}
-use Rattle.dispatcher.specs.DispatchRound.Outgoing.{SendsAll, heard, origin_at}
+use Rattle.dispatcher.specs.DispatchRound.Steady.{IsSteady, moved}
+use Rattle.dispatcher.specs.DispatchRound.Outgoing.{SendsAll, with_bodies, origin_at}
 use Rattle.dispatcher.specs.DispatchRound.Past.{MovesPast}
 use Rattle.dispatcher.specs.DispatchRound.Rounds.{AllHoldPointers, AreListeners, IsRound, is_concerned, sent_in}
-use Rattle.dispatcher.proofs.DispatchRound.Lightly.{is_whole}
+use Rattle.dispatcher.proofs.DispatchRound.Steadily.{is_whole}
 use Rattle.dispatcher.proofs.DispatchRound.Passing.{none_says, released_none, some_held, some_says}
 use Rattle.dispatcher.proofs.DispatchRound.Reaching.{only_first}
 use Rattle.dispatcher.proofs.DispatchRound.Ruling.{quiet_sent}
-use Rattle.dispatcher.proofs.DispatchRound.Saying.{heard-gone}
+use Rattle.dispatcher.proofs.DispatchRound.Saying.{with_bodies-gone}
 use Rattle.dispatcher.proofs.DispatchRound.Telling.{told_one}
 use Rattle.dispatcher.specs.declared.tables.Routing.{Routing}
 use Rattle.dispatcher.specs.Carrying.{CarriesFrom, IsOf, TakesMark}
 use Rattle.dispatcher.specs.Covering.{CoversGo}
 use Rattle.dispatcher.specs.Keying.{target_number}
 use Rattle.dispatcher.specs.Knows.{KeptStandsFor}
-use Rattle.dispatcher.specs.Past.{LetsGo, PumpsPast, Streams, moved_last}
+use Rattle.dispatcher.specs.Past.{ReleasesSent, PumpsPast, Streams, moved_last}
 use Rattle.dispatcher.specs.Queue.{Queue}
 use Rattle.dispatcher.specs.Tables.{kept}
 use Rattle.dispatcher.specs.Roomy.{AreModest, IsRoomy}
-use Rattle.dispatcher.proofs.Rounds.Moved.{light_roomy, move_sent}
+use Rattle.dispatcher.proofs.Rounds.Moved.{room_after_steady_round, move_sent}
 use Rattle.dispatcher.proofs.Laws.RoomLaws.{each_go_law, same_channel}
 use Rattle.dispatcher.proofs.Room.Roomy.{modest_none}
 use Rattle.dispatcher.proofs.Rounds.PastParts.{by_number, count_by, holds_all, released_now, sent_moved, spends_past, stream_more, stream_same, still_held, says_moves, number_at, number_past}
 
 module _ (old : Routing) (mid u : Table) (m : Motion) (r : Round) (outgoing sent_mask clk : ℕ)
-    (light : IsLight r) (is : IsOf NoOp (Some m) (target_number old.focus) [] 0 0 r)
+    (steady : IsSteady r) (is : IsOf NoOp (Some m) (target_number old.focus) [] 0 0 r)
     (low : 1 ≤ m.device) (high : m.device ≤ 8)
     (rest : (place : ℕ) → TakesMark NoOp place old.touches old.touches)
     (same : but_for_room mid ≡ but_for_room old.channels)
@@ -75,36 +75,36 @@ module _ (old : Routing) (mid u : Table) (m : Motion) (r : Round) (outgoing sent
 
   -- a channel that is sent the Move would keep it
   abbrev one : ℕ → ChannelState → ChannelState
-  one c s = cond (mask_has outgoing c) (published_at clk (heard (bodies c) (own c) clk s)) s
+  one c s = cond (mask_has outgoing c) (published_at clk (with_bodies (bodies c) (own c) clk s)) s
 
   abbrev all : Table
   all = record u { channels = by_number one 1 mid.channels }
 
-  kept_has : (c : ℕ) → mask_has outgoing c ≡ true → channel_of all c ≡ published_at clk (heard (bodies c) (own c) clk (channel_of mid c))
+  kept_has : (c : ℕ) → mask_has outgoing c ≡ true → channel_of all c ≡ published_at clk (with_bodies (bodies c) (own c) clk (channel_of mid c))
   kept_has c has =
       number_at one mid.channels c (channel_low outgoing c has) (are.opened c has)
-      ∙ ap (λ b. cond b (published_at clk (heard (bodies c) (own c) clk (channel_of mid c))) (channel_of mid c)) has
+      ∙ ap (λ b. cond b (published_at clk (with_bodies (bodies c) (own c) clk (channel_of mid c))) (channel_of mid c)) has
 
   kept_left : (c : ℕ) → 1 ≤ c → mask_has outgoing c ≡ false → channel_of all c ≡ channel_of mid c
   kept_left c from out = elim (cases_Bool (nat_le c (opened mid))) [
     | inl y ↦
         number_at one mid.channels c from (leb-true c (opened mid) y)
-        ∙ ap (λ b. cond b (published_at clk (heard (bodies c) (own c) clk (channel_of mid c))) (channel_of mid c)) out
+        ∙ ap (λ b. cond b (published_at clk (with_bodies (bodies c) (own c) clk (channel_of mid c))) (channel_of mid c)) out
     | inr n ↦ number_past one mid.channels c (leb-false c (opened mid) n)
   ]
 
-  let_go : (c : ℕ) → 1 ≤ c → (channel_of u c ≡ each_released (channel_of all c)) ⊎ (channel_of u c ≡ channel_of all c)
-  let_go c from = elim (cases_Bool (mask_has outgoing c)) [
+  released_or_same : (c : ℕ) → 1 ≤ c → (channel_of u c ≡ each_released (channel_of all c)) ⊎ (channel_of u c ≡ channel_of all c)
+  released_or_same c from = elim (cases_Bool (mask_has outgoing c)) [
     | inl has ↦ inl
         (p.changes c has old.covers (own c)
-        ∙ released_now clk (heard (bodies c) (own c) clk (channel_of mid c))
+        ∙ released_now clk (with_bodies (bodies c) (own c) clk (channel_of mid c))
         ∙ ap each_released (sym (kept_has c has)))
     | inr out ↦ inr ((p.stays c from out).0 ∙ sym (kept_left c from out))
   ]
 
   gone_kept : (c : ℕ) → 1 ≤ c → (channel_of all c).gone ≡ (channel_of mid c).gone
   gone_kept c from = elim (cases_Bool (mask_has outgoing c)) [
-    | inl has ↦ ap (λ s. s.gone) (kept_has c has) ∙ heard-gone (bodies c) (own c) clk (channel_of mid c)
+    | inl has ↦ ap (λ s. s.gone) (kept_has c has) ∙ with_bodies-gone (bodies c) (own c) clk (channel_of mid c)
     | inr out ↦ ap (λ s. s.gone) (kept_left c from out)
   ]
 
@@ -112,11 +112,11 @@ module _ (old : Routing) (mid u : Table) (m : Motion) (r : Round) (outgoing sent
       → SendsAll outgoing (sent_in old.covers r s e) old.shown.origins clk mid all
   sends place s e h holds = record {
     are_live = λ c has. (and_parts (is_concerned old.touches r c) (mask_has mid.live c) (sym (are.are c) ∙ has)).1;
-    changes = λ c has. kept_has c has ∙ ap (λ bs. published_at clk (heard bs (own c) clk (channel_of mid c))) (sym (says c));
+    changes = λ c has. kept_has c has ∙ ap (λ bs. published_at clk (with_bodies bs (own c) clk (channel_of mid c))) (sym (says c));
     tracks = λ c has. subst (TracksAll (input_of mid c) (input_of u c)) (sym (says c)) (p.tracks c has old.covers);
     stays = λ c from out. (kept_left c from out, (p.stays c from out).1);
     quiet = λ c out live.
-        quiet_sent old.covers s e old.touches r c h (is_whole r light) (mask_has_channel mid.live c live)
+        quiet_sent old.covers s e old.touches r c h (is_whole r steady) (mask_has_channel mid.live c live)
         (only_first (is_concerned old.touches r c) (mask_has mid.live c) (sym (are.are c) ∙ out) live);
     as_many = count_by one 1 mid.channels;
     live_is = p.same.live_is;
@@ -131,7 +131,7 @@ module _ (old : Routing) (mid u : Table) (m : Motion) (r : Round) (outgoing sent
       }
 
       says : (c : ℕ) → sent_in old.covers r s e c ≡ bodies c
-      says c = sent_moved old.covers old.touches m r s e c light is.motion_is is.keys_are low high by h
+      says c = sent_moved old.covers old.touches m r s e c steady is.motion_is is.keys_are low high by h
 
   carries : (place : ℕ) → r.gift ≡ None → CarriesFrom r place clk old (record old { channels = all })
   carries place ungiven = record {
@@ -174,7 +174,7 @@ module _ (old : Routing) (mid u : Table) (m : Motion) (r : Round) (outgoing sent
   kept_first c y =
       let both = is_sent c y in
       ap (λ s. s.messages) (kept_has c both.0)
-      ∙ ap (λ bs. (heard bs (own c) clk (channel_of mid c)).messages) (some_says old.covers old.touches m c both.1)
+      ∙ ap (λ bs. (with_bodies bs (own c) clk (channel_of mid c)).messages) (some_says old.covers old.touches m c both.1)
       ∙ ap (λ (ms : List Message). ms ++ record { seq = (channel_of mid c).gone + length ms + 1; moment = clk; body = body_from (own c) (body c) } ∷ [])
       (none c both.0)
 
@@ -182,17 +182,17 @@ module _ (old : Routing) (mid u : Table) (m : Motion) (r : Round) (outgoing sent
   kept_none c from n = elim (cases_Bool (mask_has outgoing c)) [
     | inl has ↦
         ap (λ s. s.messages) (kept_has c has)
-        ∙ ap (λ bs. (heard bs (own c) clk (channel_of mid c)).messages) (none_says old.covers old.touches m c (holds_none c has n))
+        ∙ ap (λ bs. (with_bodies bs (own c) clk (channel_of mid c)).messages) (none_says old.covers old.touches m c (holds_none c has n))
     | inr out ↦ ap (λ s. s.messages) (kept_left c from out)
   ]
 
-  lets_go : LetsGo sent_mask old.channels u
-  lets_go c from = elim (cases_Bool (mask_has sent_mask c)) [
+  releases : ReleasesSent sent_mask old.channels u
+  releases c from = elim (cases_Bool (mask_has sent_mask c)) [
     | inl y ↦
         let both = is_sent c y in
         let more : (channel_of u c).gone ≡ (channel_of mid c).gone + 0 + 1 =
         ap (λ s. s.gone) (p.changes c both.0 old.covers (own c))
-        ∙ ap (λ bs. sent (heard bs (own c) clk (channel_of mid c))) (some_says old.covers old.touches m c both.1)
+        ∙ ap (λ bs. sent (with_bodies bs (own c) clk (channel_of mid c))) (some_says old.covers old.touches m c both.1)
         ∙ ap (λ (ms : List Message). (channel_of mid c).gone + length (ms ++ record { seq = (channel_of mid c).gone + length ms + 1; moment = clk; body = body_from (own c) (body c) } ∷ []))
         (none c both.0)
         ∙ omega arith in
@@ -205,7 +205,7 @@ module _ (old : Routing) (mid u : Table) (m : Motion) (r : Round) (outgoing sent
       stays n = elim (cases_Bool (mask_has outgoing c)) [
         | inl has ↦
             ap (λ s. s.gone) (p.changes c has old.covers (own c))
-            ∙ ap (λ bs. sent (heard bs (own c) clk (channel_of mid c))) (none_says old.covers old.touches m c (holds_none c has n))
+            ∙ ap (λ bs. sent (with_bodies bs (own c) clk (channel_of mid c))) (none_says old.covers old.touches m c (holds_none c has n))
             ∙ ap (λ s. s.gone) (released_none (channel_of mid c) (none c has))
         | inr out ↦ ap (λ s. s.gone) (p.stays c from out).0
       ]
@@ -265,7 +265,7 @@ module _ (old : Routing) (mid u : Table) (m : Motion) (r : Round) (outgoing sent
       last y =
           let number : (channel_of mid c).gone + 0 + 1 ≡ (channel_of u c).gone =
           let next : (channel_of u c).gone ≡ (channel_of old.channels c).gone + 1 =
-          lets_go c from ∙ ap (λ b. cond b ((channel_of old.channels c).gone + 1) (channel_of old.channels c).gone) y in
+          releases c from ∙ ap (λ b. cond b ((channel_of old.channels c).gone + 1) (channel_of old.channels c).gone) y in
           omega (arith, gone_same c, next) in
           let says : body_from (own c) (body c)
           ≡ moves_from (origin (past_of es) c) m.device (flags_of (cover_in old.covers c m.device)) (pointers_of (input_of u c) m.device) =
@@ -274,9 +274,9 @@ module _ (old : Routing) (mid u : Table) (m : Motion) (r : Round) (outgoing sent
           (stands.knows.shown.origins_are c from (channel_high sent_mask c y)) (sym (pointers c y)) in
           λ i. record { seq = number i; moment = clk; body = says i }
 
-  pub past_roomy : (n list : ℕ) → IsRoomy (suc n) list old.channels → NoLessRoom old.channels mid → IsRoomy n list u
-  past_roomy n list roomy more =
-      light_roomy n list outgoing r old.channels mid u roomy
+  pub room_after_past : (n list : ℕ) → IsRoomy (suc n) list old.channels → NoLessRoom old.channels mid → IsRoomy n list u
+  room_after_past n list roomy more =
+      room_after_steady_round n list outgoing r old.channels mid u roomy
       (subst (λ ks. AreModest r.target ks old.channels) (sym is.keys_are) (modest_none r.target old.channels)) same more
       (λ w has. spends_past r m mid u w is.motion_is is.keys_are (p.spends w has)) p.stays p.same.live_is
 
@@ -290,10 +290,10 @@ module _ (old : Routing) (mid u : Table) (m : Motion) (r : Round) (outgoing sent
           each_go_law old.displays (step old.displays (Pump now) Dispatched es) (kept later k) (kept later (record old { channels = u })) all u then
               (record { queue_is = refl; shown_is = refl; touches_are = refl; covers_are = refl; focus_is = refl; repeat_is = refl })
               refl refl refl (p.same.as_many ∙ sym (count_by one 1 mid.channels)) refl refl refl
-              (λ c from to h. still_held old.displays (step old.displays (Pump now) Dispatched es) c (channel_of all c) (channel_of u c) then.lawful h (let_go c from)),
+              (λ c from to h. still_held old.displays (step old.displays (Pump now) Dispatched es) c (channel_of all c) (channel_of u c) then.lawful h (released_or_same c from)),
           streams es now queue later stands then,
         );
     displays_are = refl;
-    lets_go = lets_go;
+    releases = releases;
     anrs_are = ap (λ n. n.gone) p.same.anrs_are ∙ ap (λ t. t.anrs.gone) same;
   }

@@ -58,9 +58,9 @@ abbrev pub is_before : KeyArgs → KeyArgs → Bool
 is_before k l = nat_lt k.device l.device || k.device == l.device && nat_lt k.scan l.scan
 
 -- how many keys come before a key
-abbrev pub place_of : KeyArgs → List KeyMsg → ℕ
-place_of k [] = 0
-place_of k (l ∷ ls) = if is_before l.key k then suc (place_of k ls) else 0
+abbrev pub keys_before : KeyArgs → List KeyMsg → ℕ
+keys_before k [] = 0
+keys_before k (l ∷ ls) = if is_before l.key k then suc (keys_before k ls) else 0
 
 -- the key is at an index
 abbrev pub is_at : KeyArgs → List KeyMsg → ℕ → KeyMsg → Bool

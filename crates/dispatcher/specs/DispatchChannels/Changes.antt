@@ -12,7 +12,7 @@ use Rattle.dispatcher.specs.DispatchTables.Masks.{mask_less}
 use Rattle.dispatcher.specs.DispatchTables.Delivery.{noted_with}
 use Rattle.dispatcher.specs.DispatchTables.Dues.{anrs_in}
 use Rattle.dispatcher.specs.DispatchChannels.Table.{Table, opened, channel_of, input_of}
-use Rattle.dispatcher.specs.DispatchChannels.Heard.{body_from}
+use Rattle.dispatcher.specs.DispatchChannels.FromOrigin.{body_from}
 use Rattle.dispatch_calls.specs.declared.terms.Terms.{Terms}
 
 -- a window was sent nothing, and there is room for what it is sent first
@@ -27,7 +27,7 @@ new_channel terms = with_spare 1 (opened_with terms)
 
 -- A channel with the next number is opened on terms, and is live and able. What each window was sent is kept as before, and none but
 -- those that were opened was live.
-pub record Opens (terms : Terms) (number : ℕ) (old new : Table) : Type 0 where
+pub record OpensChannel (terms : Terms) (number : ℕ) (old new : Table) : Type 0 where
   pub few : opened old < 64
   pub as_many : length old.inputs ≡ opened old
   pub opened_live : (c : ℕ) → mask_has old.live c ≡ true → c ≤ opened old
@@ -42,7 +42,7 @@ pub record Opens (terms : Terms) (number : ℕ) (old new : Table) : Type 0 where
 -- no channel is opened exactly where 64 are, and nothing changes then
 abbrev pub OpensOrNot : (terms : Terms) → Option ℕ → (old new : Table) → Type 0
 OpensOrNot terms None old new = (opened old ≡ 64) × (new ≡ old)
-OpensOrNot terms (Some number) old new = Opens terms number old new
+OpensOrNot terms (Some number) old new = OpensChannel terms number old new
 
 -- a channel is sent a body that is in display pixels: its places are counted from an origin where it is enqueued, and not where it is
 -- tracked

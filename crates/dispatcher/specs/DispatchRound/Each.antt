@@ -9,22 +9,22 @@ use Rattle.dispatcher.specs.DispatchChannels.Table.{Table, opened, channel_of, i
 use Rattle.dispatcher.specs.declared.dispatch_round.round.Round.{Round}
 use Rattle.dispatcher.specs.DispatchRound.Bodies.{TracksAll}
 use Rattle.dispatcher.specs.DispatchRound.Rounds.{IsRound, AllHoldPointers, sent_in}
-use Rattle.dispatcher.specs.DispatchRound.Outgoing.{origin_at, heard}
+use Rattle.dispatcher.specs.DispatchRound.Outgoing.{origin_at, with_bodies}
 use Rattle.dispatcher.specs.DispatchRound.Saying.{Spends}
 
 -- The channels that pass the test are sent what is said in the round, in each scene; the others are as they were, and so is all else.
-pub record HearsEach
-    (covers : CoverTable) (r : Round) (ts : List Touches) (losses : Option (List ℕ)) (hear : ℕ → Bool) (origins : List Pixel) (clock : ℕ)
+pub record SendsEach
+    (covers : CoverTable) (r : Round) (ts : List Touches) (losses : Option (List ℕ)) (recipient : ℕ → Bool) (origins : List Pixel) (clock : ℕ)
     (old new : Table) : Type 0 where
   pub outgoing :
       (s : Scene) (e : Step) (before : List Touches)
       → IsChanged before ts r.mark losses → IsRound s e before r → AllHoldPointers s old
-      → (c : ℕ) → hear c ≡ true
-      → (channel_of new c ≡ heard (sent_in covers r s e c) (origin_at origins c) clock (channel_of old c))
+      → (c : ℕ) → recipient c ≡ true
+      → (channel_of new c ≡ with_bodies (sent_in covers r s e c) (origin_at origins c) clock (channel_of old c))
       × TracksAll (input_of old c) (input_of new c) (sent_in covers r s e c)
   pub stays :
-      (c : ℕ) → 1 ≤ c → hear c ≡ false → (channel_of new c ≡ channel_of old c) × (input_of new c ≡ input_of old c)
-  pub spends : (c : ℕ) → hear c ≡ true → Spends r c old new
+      (c : ℕ) → 1 ≤ c → recipient c ≡ false → (channel_of new c ≡ channel_of old c) × (input_of new c ≡ input_of old c)
+  pub spends : (c : ℕ) → recipient c ≡ true → Spends r c old new
   pub unfinished_is : (c : ℕ) → 1 ≤ c → (channel_of new c).unfinished ≡ (channel_of old c).unfinished
   pub gone_is : (c : ℕ) → 1 ≤ c → (channel_of new c).gone ≡ (channel_of old c).gone
   pub as_many : opened new ≡ opened old
@@ -33,8 +33,8 @@ pub record HearsEach
   pub anrs_are : new.anrs ≡ old.anrs
 
 -- the same, by what windows lost with the mark of the round, where one pilfers
-pub record HearsChanged
-    (covers : CoverTable) (r : Round) (before ts : List Touches) (hear : ℕ → Bool) (origins : List Pixel) (clock : ℕ) (old new : Table) : Type 0 where
+pub record SendsChanged
+    (covers : CoverTable) (r : Round) (before ts : List Touches) (recipient : ℕ → Bool) (origins : List Pixel) (clock : ℕ) (old new : Table) : Type 0 where
   pub losses : Option (List ℕ)
   pub losses_are : IfSome losses (AreLosses before r.mark)
-  pub hears : HearsEach covers r ts losses hear origins clock old new
+  pub gets : SendsEach covers r ts losses recipient origins clock old new

@@ -6,7 +6,7 @@ use Rattle.window_snapshot.specs.Mask.{mask_has}
 use Rattle.dispatcher.specs.InputChannel.State.{ChannelState, published_at}
 use Rattle.window_snapshot.specs.Origins.{corner}
 use Rattle.dispatcher.specs.DispatchTables.Channel.{enqueued_all}
-use Rattle.dispatcher.specs.DispatchChannels.Heard.{body_from}
+use Rattle.dispatcher.specs.DispatchChannels.FromOrigin.{body_from}
 use Rattle.dispatcher.specs.DispatchChannels.Table.{Table, opened, channel_of, input_of}
 use Rattle.dispatcher.specs.DispatchRound.Bodies.{TracksAll}
 
@@ -15,8 +15,8 @@ abbrev pub origin_at : List Pixel → ℕ → Pixel
 origin_at origins w = slice_index_or origins (w - 1) corner
 
 -- all that a channel is sent is enqueued, in order, with the places counted from the origin of its window
-abbrev pub heard : List Body → Pixel → (clock : ℕ) → ChannelState → ChannelState
-heard bodies origin clock s = enqueued_all (map (body_from origin) bodies) clock s
+abbrev pub with_bodies : List Body → Pixel → (clock : ℕ) → ChannelState → ChannelState
+with_bodies bodies origin clock s = enqueued_all (map (body_from origin) bodies) clock s
 
 -- Each live channel is sent its bodies. Those of a mask are sent theirs, which are tracked, and are published; all others are sent
 -- nothing, and stay as they are.
@@ -24,7 +24,7 @@ pub record SendsAll (changed : ℕ) (bodies : ℕ → List Body) (origins : List
   pub are_live : (c : ℕ) → mask_has changed c ≡ true → mask_has old.live c ≡ true
   pub changes :
       (c : ℕ) → mask_has changed c ≡ true
-      → channel_of new c ≡ published_at clock (heard (bodies c) (origin_at origins c) clock (channel_of old c))
+      → channel_of new c ≡ published_at clock (with_bodies (bodies c) (origin_at origins c) clock (channel_of old c))
   pub tracks : (c : ℕ) → mask_has changed c ≡ true → TracksAll (input_of old c) (input_of new c) (bodies c)
   pub stays :
       (c : ℕ) → 1 ≤ c → mask_has changed c ≡ false

@@ -11,14 +11,14 @@ use Rattle.dispatcher.specs.WindowCovers.Covers.{CoverTable}
 use Rattle.route_split.specs.Tables.{holds_at}
 use Rattle.dispatcher.specs.DispatchChannels.Table.{Table, opened, channel_of, input_of}
 use Rattle.dispatcher.specs.DispatchRound.Bodies.{TracksAll}
-use Rattle.dispatcher.specs.DispatchRound.Light.{moved}
-use Rattle.dispatcher.specs.DispatchRound.Outgoing.{heard}
+use Rattle.dispatcher.specs.DispatchRound.Steady.{moved}
+use Rattle.dispatcher.specs.DispatchRound.Outgoing.{with_bodies}
 use Rattle.dispatcher.specs.DispatchRound.Rounds.{IsLeft}
 
 -- a channel takes what its window is sent of a Move, whatever covers the window and wherever that stands, and releases it
-abbrev pub HearsPast : List Touches → Motion → ℕ → (old new : ChannelState) → Type 0
-HearsPast ts m c old new =
-    (covers : CoverTable) (o : Pixel) (clock : ℕ) → new ≡ each_released (heard (moved covers ts m c) o clock old)
+abbrev pub GetsPast : List Touches → Motion → ℕ → (old new : ChannelState) → Type 0
+GetsPast ts m c old new =
+    (covers : CoverTable) (o : Pixel) (clock : ℕ) → new ≡ each_released (with_bodies (moved covers ts m c) o clock old)
 
 -- what is kept of the window tracks it
 abbrev pub TracksPast : List Touches → Motion → ℕ → (old new : Tracked) → Type 0
@@ -39,7 +39,7 @@ pub record SameBut (old new : Table) : Type 0 where
 
 -- a Move bypasses the channel of one window
 pub record PassesOne (ts : List Touches) (m : Motion) (w : ℕ) (old new : Table) : Type 0 where
-  pub changes : HearsPast ts m w (channel_of old w) (channel_of new w)
+  pub changes : GetsPast ts m w (channel_of old w) (channel_of new w)
   pub tracks : TracksPast ts m w (input_of old w) (input_of new w)
   pub spends : SpendsOne old new w
   pub unfinished_is : (channel_of new w).unfinished ≡ (channel_of old w).unfinished
@@ -47,12 +47,12 @@ pub record PassesOne (ts : List Touches) (m : Motion) (w : ℕ) (old new : Table
   pub same : SameBut old new
 
 -- and those of all windows that pass a test
-pub record PassesEach (ts : List Touches) (m : Motion) (hear : ℕ → Bool) (old new : Table) : Type 0 where
-  pub changes : (c : ℕ) → hear c ≡ true → HearsPast ts m c (channel_of old c) (channel_of new c)
-  pub tracks : (c : ℕ) → hear c ≡ true → TracksPast ts m c (input_of old c) (input_of new c)
-  pub spends : (c : ℕ) → hear c ≡ true → SpendsOne old new c
+pub record PassesEach (ts : List Touches) (m : Motion) (recipient : ℕ → Bool) (old new : Table) : Type 0 where
+  pub changes : (c : ℕ) → recipient c ≡ true → GetsPast ts m c (channel_of old c) (channel_of new c)
+  pub tracks : (c : ℕ) → recipient c ≡ true → TracksPast ts m c (input_of old c) (input_of new c)
+  pub spends : (c : ℕ) → recipient c ≡ true → SpendsOne old new c
   pub unfinished_is : (c : ℕ) → 1 ≤ c → (channel_of new c).unfinished ≡ (channel_of old c).unfinished
-  pub stays : (c : ℕ) → 1 ≤ c → hear c ≡ false → IsLeft old new c
+  pub stays : (c : ℕ) → 1 ≤ c → recipient c ≡ false → IsLeft old new c
   pub same : SameBut old new
 
 -- A Move bypasses the channels of a mask: what each window is sent is tracked, published at a clock and released. Another mask has those that
@@ -61,7 +61,7 @@ pub record MovesPast (ts : List Touches) (m : Motion) (outgoing sent clock : ℕ
   pub sent_is : (c : ℕ) → mask_has sent c ≡ (mask_has outgoing c && list_any (λ p. holds_at ts c m.device p.id) m.pointers)
   pub changes :
       (c : ℕ) → mask_has outgoing c ≡ true → (covers : CoverTable) (o : Pixel)
-      → channel_of new c ≡ published_at clock (each_released (heard (moved covers ts m c) o clock (channel_of old c)))
+      → channel_of new c ≡ published_at clock (each_released (with_bodies (moved covers ts m c) o clock (channel_of old c)))
   pub tracks : (c : ℕ) → mask_has outgoing c ≡ true → TracksPast ts m c (input_of old c) (input_of new c)
   pub spends : (c : ℕ) → mask_has outgoing c ≡ true → SpendsOne old new c
   pub stays : (c : ℕ) → 1 ≤ c → mask_has outgoing c ≡ false → IsLeft old new c

@@ -61,9 +61,9 @@ may_take k = true
 
 -- a window may be sent a motion: one of a device that it holds something of, that gives it something or that it watches for; or cancels of
 -- whatever it holds
-abbrev pub may_hear : List Touches → Mark → Option Motion → (watchers : ℕ) → ℕ → Bool
-may_hear ts k (Some m) watchers w = may_be_sent ts k w m.device || mask_has watchers w
-may_hear ts k None watchers w = may_take k && list_any (may_be_sent ts k w) devices
+abbrev pub may_reach : List Touches → Mark → Option Motion → (watchers : ℕ) → ℕ → Bool
+may_reach ts k (Some m) watchers w = may_be_sent ts k w m.device || mask_has watchers w
+may_reach ts k None watchers w = may_take k && list_any (may_be_sent ts k w) devices
 
 -- the window that is sent keys, as a mask
 abbrev pub keyed : List KeyMsg → (target : ℕ) → ℕ
@@ -73,7 +73,7 @@ keyed (m ∷ ms) target = mask_with 0 target
 -- it may be sent something in a round
 abbrev pub is_concerned : List Touches → Round → ℕ → Bool
 is_concerned ts r w =
-    may_hear ts r.mark (option_copied r.motion) r.watchers w
+    may_reach ts r.mark (option_copied r.motion) r.watchers w
     || mask_has (keyed r.keys.now r.target) w
     || mask_has r.lost w
     || mask_has r.gained w

@@ -24,10 +24,10 @@ use Rattle.dispatcher.specs.declared.dispatch_round.round.Round.{Round}
 use Rattle.dispatcher.specs.declared.dispatch_round.listener.Listener.{Listener}
 use Rattle.dispatcher.specs.DispatchRound.Bodies.{TracksAll, keys_to, motions_of, told}
 use Rattle.dispatcher.specs.DispatchRound.Rounds.{IsRound, HoldsPointers, sent_in, most_motions, most_bodies}
-use Rattle.dispatcher.specs.DispatchRound.Outgoing.{heard}
+use Rattle.dispatcher.specs.DispatchRound.Outgoing.{with_bodies}
 
 -- a live channel has room for so many bodies more
-pub record CanHear (w n : ℕ) (t : Table) : Type 0 where
+pub record CanBeSent (w n : ℕ) (t : Table) : Type 0 where
   pub live : mask_has t.live w ≡ true
   pub opened : IsOpened t w
   pub room : n ≤ (channel_of t w).spare
@@ -35,7 +35,7 @@ pub record CanHear (w n : ℕ) (t : Table) : Type 0 where
 
 -- A channel is sent bodies, in order, which are tracked. All else is as before.
 pub record SendsOne (to : Listener) (bodies : List Body) (old new : Table) : Type 0 where
-  pub channel_is : channel_of new to.window ≡ heard bodies to.origin to.clock (channel_of old to.window)
+  pub channel_is : channel_of new to.window ≡ with_bodies bodies to.origin to.clock (channel_of old to.window)
   pub tracks : TracksAll (input_of old to.window) (input_of new to.window) bodies
   pub track_spare : (input_of new to.window).spare ≡ (input_of old to.window).spare - length bodies
   pub others :
@@ -62,7 +62,7 @@ pilfered_from k lost w input = []
 
 -- A window is sent motions, not more than there may be, and in each scene those of the rules, where the tables changed
 -- by the mark of the step.
-pub record HearsMotions (r : Round) (ts : List Touches) (losses : Option (List ℕ)) (to : Listener) (old new : Table) : Type 0 where
+pub record GetsMotions (r : Round) (ts : List Touches) (losses : Option (List ℕ)) (to : Listener) (old new : Table) : Type 0 where
   pub motions : List Motion
   pub few : length motions ≤ most_motions (option_copied r.motion) (input_of old to.window)
   pub outgoing : SendsOne to (told to.covers.now to.window motions) old new
@@ -79,7 +79,7 @@ pub record Spends (r : Round) (w : ℕ) (old new : Table) : Type 0 where
   pub keys_are : (input_of new w).keys ≡ bodies_tracked (map Key (keys_to r.target r.keys.now w)) (input_of old w).keys
 
 -- It is sent bodies, in each scene those of the round.
-pub record HearsRound (r : Round) (ts : List Touches) (losses : Option (List ℕ)) (to : Listener) (old new : Table) : Type 0 where
+pub record GetsRound (r : Round) (ts : List Touches) (losses : Option (List ℕ)) (to : Listener) (old new : Table) : Type 0 where
   pub bodies : List Body
   pub outgoing : SendsOne to bodies old new
   pub spends : Spends r to.window old new

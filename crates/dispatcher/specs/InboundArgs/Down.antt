@@ -10,23 +10,23 @@ use Rattle.dispatcher.specs.declared.inbound.change.Change.{Change}
 use Rattle.dispatcher.specs.declared.inbound.change.Becomes.{Becomes}
 use Rattle.dispatcher.specs.declared.inbound.change.Becomes.TheVariants.{Pointers, Key, Nothing}
 use Rattle.dispatcher.specs.declared.inbound.change.Inconsistent.{Inconsistent}
-use Rattle.dispatcher.specs.InboundArgs.Kept.{Kept}
+use Rattle.dispatcher.specs.InboundArgs.Kept.{DownSets}
 use Rattle.dispatcher.specs.InboundArgs.Keys.{has_key}
 
 -- what is down on a device, from what is kept of it
-abbrev pub state_of : Kept → DeviceState
+abbrev pub state_of : DownSets → DeviceState
 state_of k = record { ids = members k.ids; keys = has_key k.keys }
 
 -- what is kept of a device of which nothing came
-abbrev pub untouched : Kept
+abbrev pub untouched : DownSets
 untouched = record { ids = 0; keys = [] }
 
 -- what is kept of the device with a number from 1 on
-abbrev pub kept_at : List Kept → ℕ → Kept
+abbrev pub kept_at : List DownSets → ℕ → DownSets
 kept_at ks d = slice_index_or ks (d - 1) untouched
 
 -- what is down on the device with a number from 1 on
-abbrev pub state_at : List Kept → ℕ → DeviceState
+abbrev pub state_at : List DownSets → ℕ → DeviceState
 state_at ks d = state_of (kept_at ks d)
 
 -- the ids that are down after a motion of the device itself
@@ -50,14 +50,14 @@ Plans s args (Ok becomes) = after_args s args ≡ Some (changed becomes s)
 Plans s args (Err e) = (after_args s args ≡ None) × (members e.pointers ≡ s.ids) × (e.key_down ≡ is_key_down s args)
 
 -- the same of all devices
-abbrev pub PlansAt : List Kept → Args → Result Change Inconsistent → Type 0
+abbrev pub PlansAt : List DownSets → Args → Result Change Inconsistent → Type 0
 PlansAt ks args (Ok c) = (c.device ≡ device_of args) × Plans (state_at ks (device_of args)) args (Ok c.becomes)
 PlansAt ks args (Err e) = Plans (state_at ks (device_of args)) args (Err e)
 
 -- one device changes, and what is down on the others stays
-abbrev pub Changes : Change → List Kept → List Kept → Type 0
+abbrev pub Changes : Change → List DownSets → List DownSets → Type 0
 Changes c old new = (d : ℕ) → 1 ≤ d → state_at new d ≡ (if nat_eq d c.device then changed c.becomes (state_at old d) else state_at old d)
 
 -- what is kept says what is down on each device after a list of args, the newest first, each of which might come when it came
-abbrev pub DevicesStandFor : List Args → List Kept → Type 0
+abbrev pub DevicesStandFor : List Args → List DownSets → Type 0
 DevicesStandFor past ks = (d : ℕ) → 1 ≤ d → d ≤ 8 → device_state d past ≡ Some (state_at ks d)

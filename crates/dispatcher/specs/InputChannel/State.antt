@@ -85,8 +85,8 @@ abbrev pub received_next : ChannelState → ChannelState
 received_next s = if has_next s then received_one s else s
 
 -- the first published message that was not received is received, where there is one, whether it was released or not
-abbrev pub passed : ChannelState → ChannelState
-passed s = if nat_lt s.received s.published then received_one s else s
+abbrev pub received_uncopied : ChannelState → ChannelState
+received_uncopied s = if nat_lt s.received s.published then received_one s else s
 
 -- a message that the owner may finish: it is received and not finished
 abbrev pub may_finish : ℕ → ChannelState → Bool

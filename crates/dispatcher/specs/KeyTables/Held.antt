@@ -57,9 +57,9 @@ key_messages call answer before w =
     ++ repeat_by after (last_key before) w
 
 -- a dispatched key is sent as it is: a down if the window gets keys, an up if it holds the key
-abbrev pub key_heard : KeyArgs → (hears : Bool) → List KeyMsg → Option KeyMsg
-key_heard k hears held =
-    if (if k.down then hears else list_any (λ m. same_key k m.key) held) then Some (key_as_is k) else None
+abbrev pub sent_for_key : KeyArgs → (gets : Bool) → List KeyMsg → Option KeyMsg
+sent_for_key k gets held =
+    if (if k.down then gets else list_any (λ m. same_key k m.key) held) then Some (key_as_is k) else None
 
 -- an optional message, for any channel
 abbrev pub one_sent : Option KeyMsg → List KeyMsg
@@ -69,10 +69,10 @@ one_sent (Some m) = m ∷ []
 -- What the key target is sent for keys, from what is kept of its keys and of the last key message. It gets keys if it
 -- is able. A reset of a device cancels its keys of that device. All its keys are cancelled if a tick reports it, or
 -- if it is no longer the key target.
-abbrev pub target_sent : Call → Reply → Option Args → ℕ → (hears stays : Bool) → List KeyMsg → Option Sent → List KeyMsg
-target_sent (Pump now) Dispatched (Some (KeyOfDevice k)) w hears stays held last = one_sent (key_heard k hears held)
-target_sent (Pump now) Dispatched (Some (Reset d)) w hears stays held last = keys_cancelled (of_device d held)
-target_sent (Pump now) Repeated args w hears stays held last = one_sent (option_map (λ n. n.1) (next_of last))
-target_sent (Pump now) answer args w hears stays held last = []
-target_sent (Tick now) (Named mask) args w hears stays held last = if mask_has mask w then keys_cancelled held else []
-target_sent call answer args w hears stays held last = if stays then [] else keys_cancelled held
+abbrev pub target_sent : Call → Reply → Option Args → ℕ → (gets stays : Bool) → List KeyMsg → Option Sent → List KeyMsg
+target_sent (Pump now) Dispatched (Some (KeyOfDevice k)) w gets stays held last = one_sent (sent_for_key k gets held)
+target_sent (Pump now) Dispatched (Some (Reset d)) w gets stays held last = keys_cancelled (of_device d held)
+target_sent (Pump now) Repeated args w gets stays held last = one_sent (option_map (λ n. n.1) (next_of last))
+target_sent (Pump now) answer args w gets stays held last = []
+target_sent (Tick now) (Named mask) args w gets stays held last = if mask_has mask w then keys_cancelled held else []
+target_sent call answer args w gets stays held last = if stays then [] else keys_cancelled held

@@ -2,7 +2,7 @@
 ghost use Rattle.std.specs.Prelude.{◌≡◌, true, length, ◌+◌, ◌≤◌, ◌<◌, ◌==◌, ◌++◌};
 ghost use Rattle.std.specs.Prelude.{OnOk, OnErr, IsOk, vec_len, vec_capacity};
 ghost use Rattle.input_types.specs.declared.key.KeyMsg.{KeyMsg as Kept};
-ghost use Rattle.dispatcher.specs.CancelSynthesis.Tracked.{same_key, is_before, is_at, with_key, without_key, place_of};
+ghost use Rattle.dispatcher.specs.CancelSynthesis.Tracked.{same_key, is_before, is_at, with_key, without_key, keys_before};
 ghost use Rattle.dispatcher.specs.CancelSynthesis.Ends.{key_cancelled, keys_cancelled, of_device, keys_sent};
 
 use input_types::{Body, DeviceId, FLAG_CANCELED, KeyArgs, KeyMsg};
@@ -24,8 +24,8 @@ fn is_before(a: &KeyArgs, b: &KeyArgs) -> bool
 }
 
 /// The number of keys before a key.
-fn place_of(keys: &[KeyMsg], key: &KeyArgs) -> usize
-    ensures { result ≡ place_of key.now keys.now }
+fn keys_before(keys: &[KeyMsg], key: &KeyArgs) -> usize
+    ensures { result ≡ keys_before key.now keys.now }
 {
     for (place, kept) in keys.iter().enumerate() {
         if !is_before(&kept.key, key) {
@@ -52,7 +52,7 @@ pub(crate) fn keep(keys: &mut Vec<KeyMsg>, message: &KeyMsg) -> Result<(), Alloc
     ensures err_len { OnErr result (vec_len keys.new ≡ vec_len keys.old) }
     ensures reserved { vec_len keys.old < vec_capacity keys.old → IsOk result }
 {
-    let place = place_of(keys, &message.key);
+    let place = keys_before(keys, &message.key);
     if is_at(keys, place, &message.key) {
         keys[place] = *message;
         return Ok(());

@@ -4,7 +4,7 @@ ghost use Rattle.input_types.specs.declared.message.Body.TheVariants.{Motion as 
 ghost use Rattle.window_snapshot.specs.Mask.{mask_has};
 ghost use Rattle.routing_rules.specs.Cover.{with_flags};
 ghost use Rattle.dispatcher.specs.InputChannel.Order.{NoneAfter};
-ghost use Rattle.dispatcher.specs.InputChannel.State.{next_of, received_one, received_next, passed, may_finish};
+ghost use Rattle.dispatcher.specs.InputChannel.State.{next_of, received_one, received_next, received_uncopied, may_finish};
 ghost use Rattle.dispatcher.specs.DispatchTables.Delivery.{none_noted};
 ghost use Rattle.dispatch_history.specs.Reply.{is_due};
 ghost use Rattle.dispatcher.specs.DispatchChannels.Table.{opened, IsOpened, channel_of, input_of, with_channel, with_room, but_for_room, NoLessRoom, due_moment};
@@ -20,7 +20,7 @@ mod releasing;
 use crate::anr_tracker::Tracker;
 use crate::cancel_synthesis::InputState;
 use crate::dispatch_channels::due::{clear_all, due_channels, due_in, set_due};
-use crate::dispatch_channels::heard::{body_from, motion_from};
+use crate::dispatch_channels::from_origin::{body_from, motion_from};
 use crate::dispatch_channels::mask::{less, without};
 use crate::dispatch_channels::noted::Anrs;
 use crate::dispatch_channels::publishing::{able_after, finish_one, publish_all};
@@ -217,11 +217,11 @@ impl Channels {
 
     /// The owner of a channel receives its next message, if one is published that it did not receive. The message may
     /// have been released.
-    pub fn pass(&mut self, channel: u32)
+    pub fn receive_uncopied(&mut self, channel: u32)
         requires { IsOpened self.old channel }
-        ensures { self.new ≡ with_channel channel (passed (channel_of self.old channel)) self.old }
+        ensures { self.new ≡ with_channel channel (received_uncopied (channel_of self.old channel)) self.old }
     {
-        self.channels[channel as usize - 1].pass();
+        self.channels[channel as usize - 1].receive_uncopied();
     }
 
     /// Hands the next message of a channel to its owner; None exactly if all published ones are received. Takes no

@@ -5,7 +5,7 @@ ghost use Rattle.std.specs.Option.{option_copied};
 ghost use Rattle.window_snapshot.specs.Mask.{mask_has, mask_with};
 ghost use Rattle.routing_rules.specs.Outgoing.{devices};
 ghost use Rattle.route_split.specs.Marking.{may_be_sent};
-ghost use Rattle.dispatcher.specs.DispatchRound.Rounds.{may_hear, keyed, is_concerned, AreListeners};
+ghost use Rattle.dispatcher.specs.DispatchRound.Rounds.{may_reach, keyed, is_concerned, AreListeners};
 
 use crate::dispatch_channels::Channels;
 use crate::dispatch_round::devices::device_at;
@@ -27,9 +27,9 @@ fn all_concerned(mark: &Mark, touches: &Touches) -> u64
 }
 
 /// The mask of the windows that may be sent a motion.
-fn may_hear(round: &Round, touches: &Touches) -> u64
+fn may_reach(round: &Round, touches: &Touches) -> u64
     ensures { (w : ℕ) →
-        mask_has result w ≡ may_hear touches.now round.now.mark (option_copied round.now.motion) round.now.watchers w }
+        mask_has result w ≡ may_reach touches.now round.now.mark (option_copied round.now.motion) round.now.watchers w }
 {
     match round.motion {
         Some(motion) => touches.concerned(&round.mark, motion.device) | round.watchers,
@@ -65,5 +65,5 @@ pub fn listeners(round: &Round, touches: &Touches, channels: &Channels) -> u64
 fn concerned(round: &Round, touches: &Touches) -> u64
     ensures { (w : ℕ) → mask_has result w ≡ is_concerned touches.now round.now w }
 {
-    may_hear(round, touches) | keyed(round.keys, round.target) | round.lost | round.gained
+    may_reach(round, touches) | keyed(round.keys, round.target) | round.lost | round.gained
 }

@@ -8,7 +8,7 @@ ghost use Rattle.dispatcher.specs.CancelSynthesis.Tracked.{pointers_of};
 ghost use Rattle.dispatcher.specs.DispatchChannels.Table.{input_of};
 ghost use Rattle.dispatcher.specs.DispatchRound.Bodies.{told};
 ghost use Rattle.dispatcher.specs.DispatchRound.Rounds.{may_take, count_of, most_motions};
-ghost use Rattle.dispatcher.specs.DispatchRound.Saying.{CanHear, SendsOne, HearsMotions, losses, pilfered_from};
+ghost use Rattle.dispatcher.specs.DispatchRound.Saying.{CanBeSent, SendsOne, GetsMotions, losses, pilfered_from};
 
 use crate::dispatch_channels::Channels;
 use crate::dispatch_round::devices::device_at;
@@ -35,7 +35,7 @@ pub(crate) fn may_take(mark: &Mark) -> bool
 /// Cancels the pointers of a device that are down in the window's stream and that it no longer holds.
 fn say_loss(to: &Listener, device: DeviceId, touches: &Touches, channels: &mut Channels)
     requires { let had = pointers_of (input_of channels.old to.now.window) device in
-        CanHear to.now.window (length had) channels.old }
+        CanBeSent to.now.window (length had) channels.old }
     ensures { let input = input_of channels.old to.now.window in
         let lost = losses touches.now to.now.window input device in
         SendsOne to.now (told to.now.covers.now to.now.window lost) channels.old channels.new }
@@ -47,7 +47,7 @@ fn say_loss(to: &Listener, device: DeviceId, touches: &Touches, channels: &mut C
 
 /// Does the same for all devices, one after another.
 fn say_losses(to: &Listener, touches: &Touches, channels: &mut Channels)
-    requires { CanHear to.now.window (count_of (input_of channels.old to.now.window) devices) channels.old }
+    requires { CanBeSent to.now.window (count_of (input_of channels.old to.now.window) devices) channels.old }
     ensures { let input = input_of channels.old to.now.window in
         let lost = flat_map (losses touches.now to.now.window input) devices in
         SendsOne to.now (told to.now.covers.now to.now.window lost) channels.old channels.new }
@@ -59,7 +59,7 @@ fn say_losses(to: &Listener, touches: &Touches, channels: &mut Channels)
 
 /// Cancels what the window lost to one that pilfers.
 fn say_pilfered(to: &Listener, mark: &Mark, losses: &Losses, channels: &mut Channels)
-    requires { CanHear to.now.window (count_of (input_of channels.old to.now.window) devices) channels.old }
+    requires { CanBeSent to.now.window (count_of (input_of channels.old to.now.window) devices) channels.old }
     ensures { let input = input_of channels.old to.now.window in
         let lost = pilfered_from mark.now losses.now to.now.window input in
         SendsOne to.now (told to.now.covers.now to.now.window lost) channels.old channels.new }
@@ -89,8 +89,8 @@ fn say_sent(
     requires before { (i : ℕ) → is_in i before
         ≡ list_any (λ p. p.id == i) (pointers_of (input_of channels.old to.now.window) motion.now.device) }
     requires room { let input = input_of channels.old to.now.window in
-        CanHear to.now.window (most_motions (option_copied round.now.motion) input) channels.old }
-    ensures { (lost : Option (List ℕ)) → HearsMotions round.now touches.now lost to.now channels.old channels.new }
+        CanBeSent to.now.window (most_motions (option_copied round.now.motion) input) channels.old }
+    ensures { (lost : Option (List ℕ)) → GetsMotions round.now touches.now lost to.now channels.old channels.new }
 {
     // Read only for its clause: devices have the numbers 1 to 8, which contracts cannot see from the type.
     let _number = motion.device.get();
@@ -108,8 +108,8 @@ pub(crate) fn say_motions(
     channels: &mut Channels,
 )
     requires { let input = input_of channels.old to.now.window in
-        CanHear to.now.window (most_motions (option_copied round.now.motion) input) channels.old }
-    ensures { HearsMotions round.now touches.now (option_copied losses.entry) to.now channels.old channels.new }
+        CanBeSent to.now.window (most_motions (option_copied round.now.motion) input) channels.old }
+    ensures { GetsMotions round.now touches.now (option_copied losses.entry) to.now channels.old channels.new }
 {
     match round.motion {
         Some(motion) => {

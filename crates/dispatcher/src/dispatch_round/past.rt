@@ -7,7 +7,7 @@ ghost use Rattle.route_split.specs.Tables.{holds_at};
 ghost use Rattle.dispatcher.specs.DispatchChannels.Table.{opened, channel_of};
 ghost use Rattle.dispatcher.specs.DispatchRound.Past.{MovesPast, PassesEach, PassesOne};
 ghost use Rattle.dispatcher.specs.DispatchRound.Rounds.{IsTimely};
-ghost use Rattle.dispatcher.specs.DispatchRound.Saying.{CanHear};
+ghost use Rattle.dispatcher.specs.DispatchRound.Saying.{CanBeSent};
 
 use crate::dispatch_channels::{Channels, first_of, without};
 use crate::pointers_by_id::PointersById;
@@ -44,7 +44,7 @@ fn move_past(
     channels: &mut Channels,
 ) -> bool
     requires pointers { pointers.now ≡ motion.now.pointers }
-    requires room { CanHear window 1 channels.old }
+    requires room { CanBeSent window 1 channels.old }
     requires none { (channel_of channels.old window).messages ≡ [] }
     ensures sent { result ≡ list_any (λ p. holds_at touches.now window motion.now.device p.id) motion.now.pointers }
     ensures passes { PassesOne touches.now motion.now window channels.old channels.new }
@@ -72,7 +72,7 @@ fn move_each(outgoing: u64, motion: &Motion, touches: &Touches, channels: &mut C
     requires opened { (w : ℕ) → mask_has outgoing w ≡ true → w ≤ opened channels.old }
     requires live { (w : ℕ) → mask_has outgoing w ≡ true → mask_has channels.old.live w ≡ true }
     requires none { (w : ℕ) → mask_has outgoing w ≡ true → (channel_of channels.old w).messages ≡ [] }
-    requires room { (w : ℕ) → mask_has outgoing w ≡ true → CanHear w 1 channels.old }
+    requires room { (w : ℕ) → mask_has outgoing w ≡ true → CanBeSent w 1 channels.old }
     ensures sent { (w : ℕ) → mask_has result w
         ≡ (mask_has outgoing w && list_any (λ p. holds_at touches.now w motion.now.device p.id) motion.now.pointers) }
     ensures passes { PassesEach touches.now motion.now (mask_has outgoing) channels.old channels.new }
@@ -90,10 +90,10 @@ fn move_each(outgoing: u64, motion: &Motion, touches: &Touches, channels: &mut C
 }
 
 /// Sends the windows of the mask `outgoing` what the rules of the step of a Move say, and publishes it at the clock, as
-/// [`send_light`](crate::dispatch_round::send_light) does, but keeps no message. Returns the mask of the windows that
+/// [`send_steady`](crate::dispatch_round::send_steady) does, but keeps no message. Returns the mask of the windows that
 /// were sent one. Takes no memory.
 ///
-/// The mask is the one that [`make_light_room`](crate::dispatch_round::make_light_room) returned for the round of the
+/// The mask is the one that [`make_steady_room`](crate::dispatch_round::make_steady_room) returned for the round of the
 /// Move, and no channel of it keeps a message.
 #[inline(always)]
 pub fn send_past(
@@ -106,7 +106,7 @@ pub fn send_past(
     requires opened { (w : ℕ) → mask_has outgoing w ≡ true → w ≤ opened channels.old }
     requires live { (w : ℕ) → mask_has outgoing w ≡ true → mask_has channels.old.live w ≡ true }
     requires none { (w : ℕ) → mask_has outgoing w ≡ true → (channel_of channels.old w).messages ≡ [] }
-    requires room { (w : ℕ) → mask_has outgoing w ≡ true → CanHear w 1 channels.old }
+    requires room { (w : ℕ) → mask_has outgoing w ≡ true → CanBeSent w 1 channels.old }
     requires timely { IsTimely clock channels.old }
     ensures { MovesPast touches.now motion.now outgoing result clock channels.old channels.new }
 {

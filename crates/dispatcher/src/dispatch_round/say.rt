@@ -11,7 +11,7 @@ ghost use Rattle.dispatcher.specs.KeyTables.Focused.{change_sent};
 ghost use Rattle.dispatcher.specs.DispatchChannels.Table.{input_of};
 ghost use Rattle.routing_rules.specs.Cover.{Cover, flags_of, flags_under};
 ghost use Rattle.dispatcher.specs.DispatchRound.Bodies.{told};
-ghost use Rattle.dispatcher.specs.DispatchRound.Saying.{CanHear, SendsOne, motions_by};
+ghost use Rattle.dispatcher.specs.DispatchRound.Saying.{CanBeSent, SendsOne, motions_by};
 
 use crate::cancel_synthesis::Cancels;
 use crate::dispatch_channels::Channels;
@@ -23,7 +23,7 @@ use route_split::Sends;
 
 /// Sends one body.
 fn say(to: &Listener, body: &Body, channels: &mut Channels)
-    requires { CanHear to.now.window 1 channels.old }
+    requires { CanBeSent to.now.window 1 channels.old }
     ensures { SendsOne to.now (body.now ∷ []) channels.old channels.new }
 {
     channels.send(to.window, body, to.origin, to.clock);
@@ -41,7 +41,7 @@ fn flags_under(action: MotionAction, flags: u32, cover: u32) -> u32
 
 /// Sends one motion, with the flags of what lies over the window.
 fn say_motion(to: &Listener, motion: &Motion, channels: &mut Channels)
-    requires { CanHear to.now.window 1 channels.old }
+    requires { CanBeSent to.now.window 1 channels.old }
     ensures { SendsOne to.now (told to.now.covers.now to.now.window (motion.now ∷ [])) channels.old channels.new }
 {
     let cover = to.covers.flags(to.window, motion.device);
@@ -51,7 +51,7 @@ fn say_motion(to: &Listener, motion: &Motion, channels: &mut Channels)
 
 /// Sends a Move of the pointers of a motion with these ids.
 pub(crate) fn say_moves(to: &Listener, motion: &Motion, ids: Bits32, channels: &mut Channels)
-    requires { CanHear to.now.window 1 channels.old }
+    requires { CanBeSent to.now.window 1 channels.old }
     ensures { SendsOne to.now (told to.now.covers.now to.now.window
         (plain motion.now.device Move (listing (λ i. is_in i ids) motion.now.pointers) ∷ []))
         channels.old channels.new }
@@ -70,7 +70,7 @@ pub(crate) fn say_moves(to: &Listener, motion: &Motion, ids: Bits32, channels: &
 
 /// Sends the cancels of pointers that are taken from the window, one after another.
 pub(crate) fn say_cancels(to: &Listener, cancels: Cancels, channels: &mut Channels)
-    requires { CanHear to.now.window (length (still_sent cancels)) channels.old }
+    requires { CanBeSent to.now.window (length (still_sent cancels)) channels.old }
     ensures { SendsOne to.now (told to.now.covers.now to.now.window (still_sent cancels)) channels.old channels.new }
 {
     let mut left = cancels;
@@ -82,7 +82,7 @@ pub(crate) fn say_cancels(to: &Listener, cancels: Cancels, channels: &mut Channe
 /// Sends what the rules found for a device.
 pub(crate) fn say_found(to: &Listener, device: DeviceId, sends: &Sends, channels: &mut Channels)
     requires { let had = pointers_of (input_of channels.old to.now.window) device in
-        CanHear to.now.window (max 1 (length had)) channels.old }
+        CanBeSent to.now.window (max 1 (length had)) channels.old }
     ensures { let had = pointers_of (input_of channels.old to.now.window) device in
         SendsOne to.now (told to.now.covers.now to.now.window (motions_by sends.now device had)) channels.old
         channels.new }
@@ -98,7 +98,7 @@ pub(crate) fn say_found(to: &Listener, device: DeviceId, sends: &Sends, channels
 #[inline(never)]
 fn say_lost(to: &Listener, device: DeviceId, lost: Bits32, channels: &mut Channels)
     requires { let had = pointers_of (input_of channels.old to.now.window) device in
-        CanHear to.now.window (max 1 (length had)) channels.old }
+        CanBeSent to.now.window (max 1 (length had)) channels.old }
     ensures { let had = pointers_of (input_of channels.old to.now.window) device in
         SendsOne to.now
         (told to.now.covers.now to.now.window (pointers_cancelled device (λ i. is_in i lost) had)) channels.old
@@ -110,7 +110,7 @@ fn say_lost(to: &Listener, device: DeviceId, lost: Bits32, channels: &mut Channe
 
 /// Sends key messages, in order.
 pub(crate) fn say_keys(to: &Listener, keys: &[KeyMsg], channels: &mut Channels)
-    requires { CanHear to.now.window (length keys.now) channels.old }
+    requires { CanBeSent to.now.window (length keys.now) channels.old }
     ensures { SendsOne to.now (map KeyBody keys.now) channels.old channels.new }
 {
     for message in keys {
@@ -120,7 +120,7 @@ pub(crate) fn say_keys(to: &Listener, keys: &[KeyMsg], channels: &mut Channels)
 
 /// Sends one key message.
 fn say_key(to: &Listener, message: &KeyMsg, channels: &mut Channels)
-    requires { CanHear to.now.window 1 channels.old }
+    requires { CanBeSent to.now.window 1 channels.old }
     ensures { SendsOne to.now (KeyBody message.now ∷ []) channels.old channels.new }
 {
     channels.send_key(to.window, message, to.clock);
@@ -128,7 +128,7 @@ fn say_key(to: &Listener, message: &KeyMsg, channels: &mut Channels)
 
 /// Sends whether the window has the focus now, if that changed.
 pub(crate) fn say_change(to: &Listener, change: Option<bool>, channels: &mut Channels)
-    requires { CanHear to.now.window (length (change_sent change)) channels.old }
+    requires { CanBeSent to.now.window (length (change_sent change)) channels.old }
     ensures { SendsOne to.now (change_sent change) channels.old channels.new }
 {
     match change {
@@ -141,7 +141,7 @@ pub(crate) fn say_change(to: &Listener, change: Option<bool>, channels: &mut Cha
 /// room for its body.
 #[inline(never)]
 fn say_focus(to: &Listener, has_focus: bool, channels: &mut Channels)
-    requires { CanHear to.now.window 1 channels.old }
+    requires { CanBeSent to.now.window 1 channels.old }
     ensures { SendsOne to.now (FocusBody has_focus ∷ []) channels.old channels.new }
 {
     say(to, &Body::Focus(has_focus), channels);

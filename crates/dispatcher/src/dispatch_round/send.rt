@@ -9,8 +9,8 @@ ghost use Rattle.route_split.specs.Marking.{gives, taking, IsWhole};
 ghost use Rattle.dispatcher.specs.DispatchChannels.Table.{opened, channel_of, input_of};
 ghost use Rattle.dispatcher.specs.DispatchRound.Rounds.{IsRound, AllHoldPointers, sent_in, most_bodies};
 ghost use Rattle.dispatcher.specs.DispatchRound.Rounds.{HasRoom, IsReady, IsLeft, AreListeners, IsTimely};
-ghost use Rattle.dispatcher.specs.DispatchRound.Saying.{CanHear, HearsRound, Spends};
-ghost use Rattle.dispatcher.specs.DispatchRound.Each.{HearsEach, HearsChanged};
+ghost use Rattle.dispatcher.specs.DispatchRound.Saying.{CanBeSent, GetsRound, Spends};
+ghost use Rattle.dispatcher.specs.DispatchRound.Each.{SendsEach, SendsChanged};
 ghost use Rattle.dispatcher.specs.DispatchRound.Outgoing.{SendsAll};
 
 use crate::dispatch_channels::{Channels, first_of, without};
@@ -34,8 +34,8 @@ fn send_one(
     channels: &mut Channels,
 )
     requires { let most = most_bodies round.now to.now.window (input_of channels.old to.now.window) in
-        CanHear to.now.window most channels.old }
-    ensures { HearsRound round.now touches.now (option_copied losses.entry) to.now channels.old channels.new }
+        CanBeSent to.now.window most channels.old }
+    ensures { GetsRound round.now touches.now (option_copied losses.entry) to.now channels.old channels.new }
 {
     say_motions(to, round, touches, losses, channels);
     let window = to.window;
@@ -58,7 +58,7 @@ fn send_each(
     requires live { (w : ℕ) → mask_has outgoing w ≡ true → mask_has channels.old.live w ≡ true }
     requires room { (w : ℕ) → mask_has outgoing w ≡ true → HasRoom round.now channels.old w }
     ensures { let losses = option_copied losses.entry in
-        HearsEach covers.now round.now touches.now losses (mask_has outgoing) origins.now clock channels.old
+        SendsEach covers.now round.now touches.now losses (mask_has outgoing) origins.now clock channels.old
         channels.new }
 {
     let mut rest = outgoing;
@@ -93,7 +93,7 @@ fn change_and_send(
     ensures changes { let k = round.now.mark in
         ChangesAll touches.old touches.new (gives k) (takes (taking touches.old k)) place
         (pilfers (taking touches.old k)) }
-    ensures outgoing { HearsChanged covers.now round.now touches.old touches.new (mask_has outgoing) origins.now
+    ensures outgoing { SendsChanged covers.now round.now touches.old touches.new (mask_has outgoing) origins.now
         clock channels.old channels.new }
 {
     match round.mark {
@@ -129,7 +129,7 @@ fn pilfer_and_send(
     ensures changes { let k = round.now.mark in
         ChangesAll touches.old touches.new (gives k) (takes (taking touches.old k)) place
         (pilfers (taking touches.old k)) }
-    ensures outgoing { HearsChanged covers.now round.now touches.old touches.new (mask_has outgoing) origins.now
+    ensures outgoing { SendsChanged covers.now round.now touches.old touches.new (mask_has outgoing) origins.now
         clock channels.old channels.new }
 {
     let losses = touches.change(&round.mark, place);

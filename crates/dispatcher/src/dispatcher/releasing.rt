@@ -33,7 +33,7 @@ impl Dispatcher {
     /// by [`messages`](Dispatcher::messages). Their numbers stay in use. The owner is handed none of them, so what is
     /// kept no longer stands for its history, but it matches the history except for released messages, and all calls
     /// preserve that.
-    pub fn let_each_go(&mut self, channel: u32)
+    pub fn release_each(&mut self, channel: u32)
         ensures known { (es : List Effect) → IsAfter es self.old → IsAfter es self.new }
         ensures displays { self.new.displays ≡ self.old.displays }
         ensures gone { (es : List Effect) → IsAfter es self.old → is_opened es channel ≡ true
@@ -43,13 +43,13 @@ impl Dispatcher {
         ensures room { self.new.queue ≡ self.old.queue }
     {
         if 0 < channel && channel <= self.tables.routing.channels.opened() {
-            self.tables.routing.channels.let_each_go(channel);
+            self.tables.routing.channels.release_each(channel);
         }
     }
 
     /// Releases all messages of a removed channel, and gives back their memory: only its counts are kept. A live
     /// channel stays as it is. Read what the owner did not receive by [`messages`](Dispatcher::messages) before.
-    pub fn let_all_go(&mut self, channel: u32)
+    pub fn release_all(&mut self, channel: u32)
         ensures stays { (es : List Effect) → StandsFor es self.old → StandsFor es self.new }
         ensures known { (es : List Effect) → IsAfter es self.old → IsAfter es self.new }
         ensures displays { self.new.displays ≡ self.old.displays }
@@ -65,7 +65,7 @@ impl Dispatcher {
             return;
         }
         if 0 < channel && channel <= self.tables.routing.channels.opened() {
-            self.tables.routing.channels.let_all_go(channel);
+            self.tables.routing.channels.release_all(channel);
         }
     }
 

@@ -22,9 +22,9 @@ pub(crate) struct DeviceDown {
 }
 
 impl Model for DeviceDown {
-    ghost use Rattle.dispatcher.specs.InboundArgs.Kept.{Kept};
+    ghost use Rattle.dispatcher.specs.InboundArgs.Kept.{DownSets};
 
-    ghost Value = { Kept };
+    ghost Value = { DownSets };
 
     ghost view = { λ d. record { ids = d.pointers; keys = d.keys } };
 }

@@ -19,9 +19,9 @@ pub struct DevicesDown {
 
 impl Model for DevicesDown {
     ghost use Rattle.std.specs.Prelude.{◌≡◌, List, length};
-    ghost use Rattle.dispatcher.specs.InboundArgs.Kept.{Kept};
+    ghost use Rattle.dispatcher.specs.InboundArgs.Kept.{DownSets};
 
-    ghost Value = { List Kept };
+    ghost Value = { List DownSets };
 
     ghost view = { λ d. d.devices.items };
 

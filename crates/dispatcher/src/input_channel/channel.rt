@@ -4,7 +4,7 @@ ghost use Rattle.std.specs.Option.{option_copied};
 ghost use Rattle.input_types.specs.declared.message.Body.TheVariants.{Key as KeyBody};
 ghost use Rattle.dispatcher.specs.InputChannel.Order.{NoneAfter};
 ghost use Rattle.dispatcher.specs.InputChannel.State.{IsChannel, opened_with, sent, enqueued, with_spare, published_at};
-ghost use Rattle.dispatcher.specs.InputChannel.State.{next_of, received_one, received_next, passed, may_finish, finished_with};
+ghost use Rattle.dispatcher.specs.InputChannel.State.{next_of, received_one, received_next, received_uncopied, may_finish, finished_with};
 ghost use Rattle.dispatcher.specs.InputChannel.Moves.{moves_from};
 ghost use Rattle.dispatcher.specs.InputChannel.State.{oldest_of, has_late};
 
@@ -225,8 +225,8 @@ impl Channel {
 
     /// The owner receives the next message, if one is published that it did not receive. The message may have been
     /// released.
-    pub fn pass(&mut self)
-        ensures { self.new ≡ passed self.old }
+    pub fn receive_uncopied(&mut self)
+        ensures { self.new ≡ received_uncopied self.old }
     {
         if self.received < self.published {
             self.received += 1;

@@ -176,7 +176,7 @@ impl Kept {
     }
 
     /// Releases all messages, and keeps the room for more.
-    pub(crate) fn let_each_go(&mut self)
+    pub(crate) fn release_each(&mut self)
         ensures { self.new ≡ kept_empty self.old }
     {
         self.gone += (self.list.len() - self.dropped) as u64;
@@ -185,7 +185,7 @@ impl Kept {
     }
 
     /// Releases all messages, and gives back the memory of their list.
-    pub(crate) fn let_all_go(&mut self)
+    pub(crate) fn release_all(&mut self)
         ensures { self.new ≡ kept_none self.old }
     {
         self.gone += (self.list.len() - self.dropped) as u64;

@@ -2,17 +2,17 @@
 ghost use Rattle.std.specs.Prelude.{◌≡◌};
 ghost use Rattle.std.specs.List.{list_any};
 ghost use Rattle.dispatch_history.specs.Keys.{same_key};
-ghost use Rattle.dispatcher.specs.KeyTables.Held.{key_heard};
+ghost use Rattle.dispatcher.specs.KeyTables.Held.{sent_for_key};
 ghost use Rattle.dispatcher.specs.KeyTables.Repeats.{repeat_after};
 
 use input_types::{KeyArgs, KeyMsg, Moment};
 use key_repeat::Repeat;
 
 /// What a window is sent for a dispatched key: a down, if it gets keys, and an up of a key that it holds.
-pub fn key_heard(key: &KeyArgs, hears: bool, held: &[KeyMsg]) -> Option<KeyMsg>
-    ensures { result ≡ key_heard key.now hears held.now }
+pub fn sent_for_key(key: &KeyArgs, gets: bool, held: &[KeyMsg]) -> Option<KeyMsg>
+    ensures { result ≡ sent_for_key key.now gets held.now }
 {
-    let is_sent = if key.down { hears } else { holds(held, key) };
+    let is_sent = if key.down { gets } else { holds(held, key) };
     if is_sent {
         Some(KeyMsg {
             key: *key,

@@ -1,6 +1,6 @@
 //! Reading a key.
 ghost use Rattle.std.specs.Prelude.{◌≡◌, option_map};
-ghost use Rattle.stream_text.specs.MessageLine.{codes_at, key_of, way_at};
+ghost use Rattle.stream_text.specs.MessageLine.{codes_at, key_read, way_at};
 
 use crate::reading::flags::canceled;
 use crate::reading::number::{device, labeled, number, past};
@@ -30,9 +30,9 @@ fn codes(bytes: &[u8]) -> Option<(u16, u16, u32, &[u8])>
     Some((scan as u16, code as u16, meta as u32, rest))
 }
 
-#[tactic(auto, unfolding(crate::specs::MessageLine::key_of))]
+#[tactic(auto, unfolding(crate::specs::MessageLine::key_read))]
 pub(crate) fn key(bytes: &[u8]) -> Option<KeyMsg>
-    ensures { result ≡ key_of bytes.now }
+    ensures { result ≡ key_read bytes.now }
 {
     let Some((device, rest)) = device(bytes) else {
         return None;

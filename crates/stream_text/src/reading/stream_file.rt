@@ -1,7 +1,7 @@
 //! The streams of a stream file.
 ghost use Rattle.std.specs.Prelude.{◌≡◌, ◌+◌, ◌^◌, ◌<◌, ◌≤◌, IfOk, IfSome, OnOk, Ok, Err};
 ghost use Rattle.stream_text.specs.StreamFile.{events_of, streams_in};
-ghost use Rattle.stream_text.specs.StreamAnswer.{Answers, Begins, Finds, channel_sent, message_sent, pending};
+ghost use Rattle.stream_text.specs.StreamAnswer.{Answers, ReadsSection, Finds, channel_sent, message_sent, pending};
 ghost use Rattle.std.specs.Prelude.{List, Option};
 ghost use Rattle.stream_text.specs.declared.order_line.OrderLine.{OrderLine};
 ghost use Rattle.stream_text.specs.StreamText.{AreAnrs, AreSections, IsStreamFile, MayBeOrder, Anr, Section, line_behind, stream_text, streams_from};
@@ -69,7 +69,7 @@ fn section(
     alloc: Global,
     lines: &mut StreamLines<'_>,
 ) -> Result<(Vec<Message>, Option<(u64, StreamLine)>), StreamError>
-    ensures section { Begins lines.old.events result lines.new.events }
+    ensures section { ReadsSection lines.old.events result lines.new.events }
     ensures left { IfOk result (λ section. lines.new.left + pending section.1 ≤ lines.old.left) }
     ensures range { IfOk result (λ section. IfSome section.1 (λ event. event.0 + 1 < 2 ^ 64)) }
 {

@@ -1,6 +1,6 @@
 use Rattle.std.proofs.Common.{refl, sym}
 use Rattle.std.proofs.lemmas.Bool.{true≢false}
-use Rattle.dispatcher.proofs.Room.Roomy.{round_roomy, most_room}
+use Rattle.dispatcher.proofs.Room.Roomy.{room_after_round, most_room}
 use Rattle.dispatcher.proofs.Made.Timely.{timely_room}
 use Rattle.dispatcher.proofs.carry.send.Goals as goal
 
@@ -14,7 +14,7 @@ returns-in_err-outgoing-clause-calm c = λ none. absurd (true≢false (sym (c.in
 pub returns-clause-roomy : goal.returns-clause-roomy
 returns-clause-roomy c n list roomy modest = (
   refl,
-  round_roomy n list c.in_ok-outgoing.outgoing c.args.round.now c.args.routing.now.channels c.make_room.new.channels c.carry_out.new.routing.channels roomy modest c.in_ok-outgoing.ensures.same
+  room_after_round n list c.in_ok-outgoing.outgoing c.args.round.now c.args.routing.now.channels c.make_room.new.channels c.carry_out.new.routing.channels roomy modest c.in_ok-outgoing.ensures.same
       c.in_ok-outgoing.ensures.room
       c.in_ok-outgoing.ensures.few
       c.carry_out.ensures.room.spends

@@ -3,8 +3,8 @@ use Rattle.dispatcher.specs.Roomy.{AreModest}
 use Rattle.dispatcher.proofs.Room.Oks.{on_ok}
 use Rattle.dispatcher.proofs.carry.send_key.Goals as goal
 
-pub send_lightly-requires-clause-light : goal.send_lightly-requires-clause-light
-send_lightly-requires-clause-light c = record {
+pub send_steadily-requires-clause-steady : goal.send_steadily-requires-clause-steady
+send_steadily-requires-clause-steady c = record {
   mark_is = refl;
   motion_is = tt;
   watchers_is = refl;
@@ -14,7 +14,7 @@ send_lightly-requires-clause-light c = record {
 
 pub returns-clause-ok : goal.returns-clause-ok
 returns-clause-ok c =
-    on_ok _ _ c.send_lightly.result c.send_lightly.ensures.ok
+    on_ok _ _ c.send_steadily.result c.send_steadily.ensures.ok
     (λ from.
     record {
       round = _;
@@ -33,5 +33,5 @@ returns-clause-ok c =
 
 pub returns-clause-roomy : goal.returns-clause-roomy
 returns-clause-roomy c n list roomy modest =
-    c.send_lightly.ensures.roomy n list roomy
+    c.send_steadily.ensures.roomy n list roomy
     (subst (λ t. AreModest t (c.args.message ∷ []) c.args.routing.now.channels) (sym (c.unwrap_or.ensures ∙ ap (λ o. unwrap_or o 0) c.target.ensures)) modest)

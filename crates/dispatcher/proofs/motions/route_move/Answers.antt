@@ -4,8 +4,8 @@ use Rattle.dispatcher.proofs.Room.Oks.{on_ok}
 use Rattle.dispatcher.proofs.Rounds.Moved.{move_sent}
 use Rattle.dispatcher.proofs.motions.route_move.Goals as goal
 
-pub send_lightly-requires-clause-light : goal.send_lightly-requires-clause-light
-send_lightly-requires-clause-light c = record {
+pub send_steadily-requires-clause-steady : goal.send_steadily-requires-clause-steady
+send_steadily-requires-clause-steady c = record {
   mark_is = refl;
   motion_is = c.requires.moves;
   watchers_is = refl;
@@ -16,9 +16,9 @@ send_lightly-requires-clause-light c = record {
 pub returns-clause-ok : goal.returns-clause-ok
 returns-clause-ok c =
     let old = c.args.routing.now in
-    on_ok _ _ c.send_lightly.result c.send_lightly.ensures.ok
+    on_ok _ _ c.send_steadily.result c.send_steadily.ensures.ok
     (λ from.
-    move_sent old c.send_lightly.new.routing c.args.place c.args.clock c.args.motion.now _
+    move_sent old c.send_steadily.new.routing c.args.place c.args.clock c.args.motion.now _
     (record {
       mark_is = refl;
       motion_is = refl;
@@ -36,5 +36,5 @@ returns-clause-ok c =
 
 pub returns-clause-roomy : goal.returns-clause-roomy
 returns-clause-roomy c n roomy =
-    let outgoing = c.send_lightly.ensures.roomy n _ roomy (modest_none _ c.args.routing.now.channels) in
-    (outgoing.0, still_list n c.args.routing.now c.send_lightly.new.routing c.send_lightly.ensures.list outgoing.1)
+    let outgoing = c.send_steadily.ensures.roomy n _ roomy (modest_none _ c.args.routing.now.channels) in
+    (outgoing.0, still_list n c.args.routing.now c.send_steadily.new.routing c.send_steadily.ensures.list outgoing.1)

@@ -10,6 +10,6 @@ returns-then-not-mask_has c =
 
 pub returns : goal.returns
 returns c =
-    hands_live c.args.channel c.args.routing.now c.pass.new.self
+    hands_live c.args.channel c.args.routing.now c.receive_uncopied.new.self
     (ap (λ m. mask_has m c.args.channel) (sym c.live.ensures.value) ∙ sym c.mask_has.ensures ∙ c.if-not-mask_has.false)
-    c.pass.ensures
+    c.receive_uncopied.ensures

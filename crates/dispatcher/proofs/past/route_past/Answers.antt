@@ -1,15 +1,15 @@
 use Rattle.std.proofs.Common.{refl, sym, ap, ◌∙◌, unwrap_or}
 use Rattle.dispatcher.proofs.Made.Timely.{timely_room}
-use Rattle.dispatcher.proofs.Rounds.Unkept.{past_roomy, pumps_past}
+use Rattle.dispatcher.proofs.Rounds.Unkept.{room_after_past, pumps_past}
 use Rattle.dispatcher.proofs.past.route_past.Goals as goal
 
 pub send_past-sent-requires-clause-timely : goal.send_past-sent-requires-clause-timely
 send_past-sent-requires-clause-timely c =
-    timely_room c.args.clock c.args.routing.now.channels c.make_light_room.new.channels c.in_ok-outgoing.ensures.same c.requires.timely
+    timely_room c.args.clock c.args.routing.now.channels c.make_steady_room.new.channels c.in_ok-outgoing.ensures.same c.requires.timely
 
 pub returns-clause-past : goal.returns-clause-past
 returns-clause-past c = λ place.
-    pumps_past c.args.routing.now c.make_light_room.new.channels c.send_past-sent.new.channels c.args.motion.now _ c.in_ok-outgoing.outgoing
+    pumps_past c.args.routing.now c.make_steady_room.new.channels c.send_past-sent.new.channels c.args.motion.now _ c.in_ok-outgoing.outgoing
     c.send_past-sent.result c.args.clock
     (record { mark_is = refl; motion_is = c.requires.moves; watchers_is = refl; lost_is = refl; gained_is = refl })
     (record {
@@ -36,7 +36,7 @@ returns-clause-past c = λ place.
 
 pub returns-clause-roomy : goal.returns-clause-roomy
 returns-clause-roomy c n roomy =
-    past_roomy c.args.routing.now c.make_light_room.new.channels c.send_past-sent.new.channels c.args.motion.now _ c.in_ok-outgoing.outgoing
+    room_after_past c.args.routing.now c.make_steady_room.new.channels c.send_past-sent.new.channels c.args.motion.now _ c.in_ok-outgoing.outgoing
     c.send_past-sent.result c.args.clock
     (record { mark_is = refl; motion_is = c.requires.moves; watchers_is = refl; lost_is = refl; gained_is = refl })
     (record {

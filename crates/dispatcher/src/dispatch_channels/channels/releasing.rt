@@ -16,19 +16,19 @@ impl Channels {
     }
 
     /// Releases all messages of a channel, received or not. Their numbers stay in use, and the room for more stays.
-    pub fn let_each_go(&mut self, channel: u32)
+    pub fn release_each(&mut self, channel: u32)
         requires { IsOpened self.old channel }
         ensures { self.new ≡ with_channel channel (each_released (channel_of self.old channel)) self.old }
     {
-        self.channels[channel as usize - 1].let_each_go();
+        self.channels[channel as usize - 1].release_each();
     }
 
     /// Releases all messages of a channel, and gives back their memory. Their numbers stay in use.
-    pub fn let_all_go(&mut self, channel: u32)
+    pub fn release_all(&mut self, channel: u32)
         requires { IsOpened self.old channel }
         ensures { self.new ≡ with_channel channel (all_released (channel_of self.old channel)) self.old }
     {
-        self.channels[channel as usize - 1].let_all_go();
+        self.channels[channel as usize - 1].release_all();
     }
 
     /// Releases the ANRs so far, and gives back their memory.

@@ -31,19 +31,19 @@ impl Channel {
     }
 
     /// Releases all messages, received or not. A reader ahead of the owner calls it once it has read them. Their
-    /// numbers stay in use, and the room for more stays. The owner is handed none of them any more, but `pass` goes on
-    /// counting.
-    pub fn let_each_go(&mut self)
+    /// numbers stay in use, and the room for more stays. The owner is handed none of them any more, but
+    /// `receive_uncopied` goes on counting.
+    pub fn release_each(&mut self)
         ensures { self.new ≡ each_released self.old }
     {
-        self.kept.let_each_go();
+        self.kept.release_each();
     }
 
     /// Releases all messages, received or not, and gives back their memory. Their numbers stay in use, and the owner is
     /// handed none of them any more.
-    pub fn let_all_go(&mut self)
+    pub fn release_all(&mut self)
         ensures { self.new ≡ all_released self.old }
     {
-        self.kept.let_all_go();
+        self.kept.release_all();
     }
 }

@@ -2,7 +2,7 @@
 use Rattle.std.proofs.Common.{◌≡◌, ℕ, List, length, ◌∙◌, ap, arith}
 use Rattle.std.proofs.lemmas.List.{with_items_is}
 use Rattle.cursor_core.specs.declared.message.HoverMsg.{HoverMsg}
-use Rattle.cursor_core.specs.Kept.{Kept, Row, gone, gone_in, row_of}
+use Rattle.cursor_core.specs.Kept.{CursorState, Row, gone, gone_in, row_of}
 use Rattle.cursor_core.specs.Notes.{noted}
 use Rattle.cursor_core.specs.Rows.{rows_with}
 use Rattle.cursor_core.proofs.Rows.{none_gone}
@@ -15,4 +15,4 @@ returns-clause-gone c = λ w.
     let same = with_items_is c.self.inside.streams c.send_both.new.streams (omega (arith, size, c.self.inside.streams.ok.0)) in
     ap (λ (rows : List Row). gone_in (row_of rows w)) (same ∙ c.in_ok-send_both.ensures.ok ∙ ap (rows_with told 1) c.deref_mut.ensures.value)
     ∙ none_gone told c.self.inside.streams.items w
-    ∙ ap (λ (kept : Kept). gone kept w) c.self.view_is
+    ∙ ap (λ (kept : CursorState). gone kept w) c.self.view_is

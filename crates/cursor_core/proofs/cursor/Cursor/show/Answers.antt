@@ -2,13 +2,13 @@
 use Rattle.std.proofs.Common.{false, refl, sym, ◌∙◌, ap, subst}
 use Rattle.cursor_core.specs.declared.note.Step.{Step}
 use Rattle.cursor_core.specs.Cursor.{CursorStandsFor, stepped}
-use Rattle.cursor_core.specs.Kept.{Kept}
+use Rattle.cursor_core.specs.Kept.{CursorState}
 use Rattle.cursor_core.proofs.Next.{shown}
 use Rattle.cursor_core.proofs.cursor.Cursor.show.Goals as goal
 
 pub returns-clause-stands : goal.returns-clause-stands
 returns-clause-stands c = λ d calls h.
-    let k : Kept = record {
+    let k : CursorState = record {
       last = c.self.inside.last;
       at = c.self.inside.at;
       clock = c.self.inside.clock;
@@ -18,7 +18,7 @@ returns-clause-stands c = λ d calls h.
       hovered = c.self.inside.hovered;
       streams = c.self.inside.streams.items;
     } in
-    let inside : CursorStandsFor d calls k = subst (λ (kept : Kept). CursorStandsFor d calls kept) (sym c.self.view_is) h in
+    let inside : CursorStandsFor d calls k = subst (λ (kept : CursorState). CursorStandsFor d calls kept) (sym c.self.view_is) h in
     let s : Step = record {
       moment = c.later.result;
       moved = false;
@@ -30,5 +30,5 @@ returns-clause-stands c = λ d calls h.
     } in
     shown d calls k _ c.args.now c.args.snapshot s c.corner_after-left.result c.corner_in-met.result inside
     c.later.ensures refl refl refl refl refl c.hovered_by.ensures c.corner_after-left.ensures c.corner_in-met.ensures
-    (ap {B = Kept} (λ (kept : Kept). record kept { windows = c.args.snapshot })
-    (c.self-2.view_is ∙ c.in_ok-apply_step.ensures.ok ∙ ap (λ (kept : Kept). stepped kept s c.corner_after-left.result c.corner_in-met.result) (sym c.self.view_is)))
+    (ap {B = CursorState} (λ (kept : CursorState). record kept { windows = c.args.snapshot })
+    (c.self-2.view_is ∙ c.in_ok-apply_step.ensures.ok ∙ ap (λ (kept : CursorState). stepped kept s c.corner_after-left.result c.corner_in-met.result) (sym c.self.view_is)))

@@ -10,4 +10,4 @@ returns c w =
     ∙ ap (λ b. b || mask_has r.gained w)
     (mask_has-or _ r.lost w
     ∙ ap (λ b. b || mask_has r.lost w)
-    (mask_has-or c.may_hear.result c.keyed.result w ∙ ap₂ (λ a b. a || b) (c.may_hear.ensures w) (ap (λ n. mask_has n w) c.keyed.ensures)))
+    (mask_has-or c.may_reach.result c.keyed.result w ∙ ap₂ (λ a b. a || b) (c.may_reach.ensures w) (ap (λ n. mask_has n w) c.keyed.ensures)))

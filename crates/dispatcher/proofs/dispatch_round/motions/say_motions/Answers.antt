@@ -7,7 +7,7 @@ use Rattle.route_split.specs.declared.sends.Sends.TheVariants.{One}
 use Rattle.std.specs.Option.{option_copied}
 use Rattle.dispatcher.specs.CancelSynthesis.Tracked.{pointers_of}
 use Rattle.routing_rules.proofs.Listings.{has_id}
-use Rattle.dispatcher.proofs.DispatchRound.Hearing.{of_some, hears_found, hears_lost, hears_pilfered, hears_none}
+use Rattle.dispatcher.proofs.DispatchRound.Getting.{of_some, gets_found, gets_lost, gets_pilfered, gets_none}
 use Rattle.dispatcher.proofs.dispatch_round.motions.say_motions.Goals as goal
 
 pub say_sent-requires-clause-before : goal.say_sent-requires-clause-before
@@ -18,7 +18,7 @@ pub returns-in-Some-moving : goal.returns-in-Some-moving
 returns-in-Some-moving c =
     let m = c.in-Some.motion.now in
     let ids = c.in-Some-moving.ids in
-    hears_found c.args.round.now c.args.touches.now c.args.to.now c.args.channels.now c.say_moves.new.channels m
+    gets_found c.args.round.now c.args.touches.now c.args.to.now c.args.channels.now c.say_moves.new.channels m
     (One (plain m.device Move (listing (λ i. is_in i ids) m.pointers)))
     c.ids_of-before.result
     (mask_has c.args.round.now.watchers c.args.to.now.window)
@@ -33,19 +33,19 @@ returns-in-Some-moving c =
 
 pub returns-in-Some-losses : goal.returns-in-Some-losses
 returns-in-Some-losses c =
-    hears_pilfered c.args.round.now c.args.touches.now c.args.to.now c.args.channels.now c.say_pilfered.new.channels (option_copied c.args.losses) c.in-Some-losses.losses.now
+    gets_pilfered c.args.round.now c.args.touches.now c.args.to.now c.args.channels.now c.say_pilfered.new.channels (option_copied c.args.losses) c.in-Some-losses.losses.now
     (ap option_copied c.in-None.is)
     (ap option_copied c.in-Some-losses.is)
     c.say_pilfered.ensures
 
 pub returns-then-may_take : goal.returns-then-may_take
 returns-then-may_take c =
-    hears_lost c.args.round.now c.args.touches.now c.args.to.now c.args.channels.now c.say_losses.new.channels (option_copied c.args.losses)
+    gets_lost c.args.round.now c.args.touches.now c.args.to.now c.args.channels.now c.say_losses.new.channels (option_copied c.args.losses)
     (ap option_copied c.in-None.is)
     (sym c.may_take.ensures ∙ c.if-may_take.true)
     c.say_losses.ensures
 
 pub returns-else-may_take : goal.returns-else-may_take
 returns-else-may_take c =
-    hears_none c.args.round.now c.args.touches.now (option_copied c.args.losses) c.args.to.now c.args.channels.now (ap option_copied c.in-None.is)
+    gets_none c.args.round.now c.args.touches.now (option_copied c.args.losses) c.args.to.now c.args.channels.now (ap option_copied c.in-None.is)
     (sym c.may_take.ensures ∙ c.if-may_take.false)

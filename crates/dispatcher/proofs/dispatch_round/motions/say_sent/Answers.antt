@@ -1,10 +1,10 @@
 use Rattle.std.proofs.Common.{◌≤◌, subst}
-use Rattle.dispatcher.proofs.DispatchRound.Hearing.{hears_found}
+use Rattle.dispatcher.proofs.DispatchRound.Getting.{gets_found}
 use Rattle.dispatcher.proofs.dispatch_round.motions.say_sent.Goals as goal
 
 pub returns : goal.returns
 returns c lost =
-    hears_found c.args.round.now c.args.touches.now c.args.to.now c.args.channels.now c.say_found.new.channels c.args.motion.now c.sends-sends.result c.args.before
+    gets_found c.args.round.now c.args.touches.now c.args.to.now c.args.channels.now c.say_found.new.channels c.args.motion.now c.sends-sends.result c.args.before
     c.mask_has-watches.result
     lost
     c.requires.motion

@@ -8,5 +8,5 @@ pub returns-clause-outgoing : goal.returns-clause-outgoing
 returns-clause-outgoing c = record {
   losses = option_copied c.as_ref.result;
   losses_are = subst (λ o. IfSome o (AreLosses c.args.touches.now c.args.round.now.mark)) (sym c.as_ref.ensures.value) c.change-losses.ensures.losses;
-  hears = c.send_each.ensures;
+  gets = c.send_each.ensures;
 }

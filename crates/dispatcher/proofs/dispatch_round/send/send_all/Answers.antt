@@ -25,24 +25,24 @@ returns-clause-outgoing c s e h holds =
       losses_are = outgoing.losses_are;
     } in
     sends_all c.args.covers.now s e c.args.round.now c.args.touches.now c.change_and_send.new.touches outgoing.losses c.args.outgoing c.args.origins.now c.args.clock c.args.channels.now
-    c.change_and_send.new.channels c.publish.new.self c.requires.whole c.requires.outgoing.are outgoing.hears c.publish.ensures by h holds
+    c.change_and_send.new.channels c.publish.new.self c.requires.whole c.requires.outgoing.are outgoing.gets c.publish.ensures by h holds
 
 pub returns-clause-gone : goal.returns-clause-gone
 returns-clause-gone c k low =
-    published_gone _ c.args.clock c.change_and_send.new.channels c.publish.new.self c.publish.ensures k low ∙ c.change_and_send.ensures.outgoing.hears.gone_is k low
+    published_gone _ c.args.clock c.change_and_send.new.channels c.publish.new.self c.publish.ensures k low ∙ c.change_and_send.ensures.outgoing.gets.gone_is k low
 
 pub returns-clause-anrs : goal.returns-clause-anrs
-returns-clause-anrs c = c.publish.ensures.anrs_are ∙ c.change_and_send.ensures.outgoing.hears.anrs_are
+returns-clause-anrs c = c.publish.ensures.anrs_are ∙ c.change_and_send.ensures.outgoing.gets.anrs_are
 
 pub returns-clause-spends : goal.returns-clause-spends
 returns-clause-spends c w has =
     published_spends c.args.round.now c.args.outgoing c.args.clock c.args.channels.now c.change_and_send.new.channels c.publish.new.self c.publish.ensures w (channel_low c.args.outgoing w has)
-    (c.change_and_send.ensures.outgoing.hears.spends w has)
+    (c.change_and_send.ensures.outgoing.gets.spends w has)
 
 pub returns-clause-left : goal.returns-clause-left
 returns-clause-left c w from out =
-    published_left c.args.covers.now c.args.round.now _ _ c.args.outgoing c.args.origins.now c.args.clock c.args.channels.now c.change_and_send.new.channels c.publish.new.self c.change_and_send.ensures.outgoing.hears c.publish.ensures w
+    published_left c.args.covers.now c.args.round.now _ _ c.args.outgoing c.args.origins.now c.args.clock c.args.channels.now c.change_and_send.new.channels c.publish.new.self c.change_and_send.ensures.outgoing.gets c.publish.ensures w
     from out
 
 pub returns-clause-live : goal.returns-clause-live
-returns-clause-live c = c.publish.ensures.live_is ∙ c.change_and_send.ensures.outgoing.hears.live_is
+returns-clause-live c = c.publish.ensures.live_is ∙ c.change_and_send.ensures.outgoing.gets.live_is

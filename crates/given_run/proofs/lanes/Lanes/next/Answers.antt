@@ -7,17 +7,17 @@ use Rattle.dispatch_history.specs.Given.{next_of_lane, without_next}
 use Rattle.dispatch_history.specs.Plan.{ScriptStep}
 use Rattle.schedule.specs.declared.plan.Step.{Step}
 use Rattle.schedule.specs.Planned.{step_of}
-use Rattle.given_run.specs.Lanes.{calls_from, place_of, IsLeft}
+use Rattle.given_run.specs.Lanes.{calls_from, search_from, IsLeft}
 use Rattle.given_run.proofs.Left.{lane_ends, lane_moves}
 use Rattle.given_run.proofs.lanes.Lanes.next.Goals as goal
 
 -- the index from which the next step of the lane is searched
-looked : (places : List ℕ) (lane at found : ℕ) → length places ≡ 256 → lane < 256 → at ≡ lane → found ≡ get_or places at found → found ≡ place_of places lane
+looked : (places : List ℕ) (lane at found : ℕ) → length places ≡ 256 → lane < 256 → at ≡ lane → found ≡ get_or places at found → found ≡ search_from places lane
 looked places lane at found wide low e is = is ∙ ap (λ k. get_or places k found) e ∙ get_or_default places lane found 0 (omega (arith, wide, low))
 
 -- the lane's next step, if its index is known
 moved : (steps : List Step) (left : List ScriptStep) (places old : List ℕ) (lane from at : ℕ) (x : Step)
-    → places ≡ old → length places ≡ 256 → lane < 256 → from ≡ place_of places lane → IsLeft (map step_of steps) left old
+    → places ≡ old → length places ≡ 256 → lane < 256 → from ≡ search_from places lane → IsLeft (map step_of steps) left old
     → calls_from steps lane from ≡ x.call ∷ calls_from steps lane (at + 1)
     → (next_of_lane lane left ≡ Some x.call) × IsLeft (map step_of steps) (without_next lane left) (slice_set places lane (at + 1))
 moved steps left places old lane from at x view wide low is there here =

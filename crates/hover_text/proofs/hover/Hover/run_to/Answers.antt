@@ -2,7 +2,7 @@ use Rattle.std.proofs.Common.{◌≡◌, ◌≤◌, ◌∙◌, ℕ, None, ap, sy
 use Rattle.std.specs.Prelude.{slice_get}
 use Rattle.std.proofs.lemmas.Result.{on_err_weaker, on_ok_weaker}
 use Rattle.cursor_core.specs.Calls.{moment_of}
-use Rattle.cursor_core.specs.Kept.{Kept}
+use Rattle.cursor_core.specs.Kept.{CursorState}
 use Rattle.hover_text.specs.Running.{HasMade, due_of}
 use Rattle.hover_text.specs.State.{HoverState}
 use Rattle.hover_text.proofs.Running.{motion_made}
@@ -34,5 +34,5 @@ returns-clause-err c = λ d all t h le.
     subst (λ (s : HoverState). HasMade d steps all (moment_of m) s) (sym c.self.view_is)
     (subst (λ (n : ℕ). HasMade d steps all n c.steps_up_to.new.self) at (c.in_ok-steps_up_to.ensures.made d all t h (subst (λ (n : ℕ). t ≤ n) (sym at) le))) in
     on_err_weaker c.apply.result
-    (λ same. subst (λ (x : Kept). HasMade d steps all (moment_of m) (record { cursor = x; reader = c.self.inside.reader; next = c.self.inside.next })) (sym same) here)
+    (λ same. subst (λ (x : CursorState). HasMade d steps all (moment_of m) (record { cursor = x; reader = c.self.inside.reader; next = c.self.inside.next })) (sym same) here)
     c.apply.ensures.err

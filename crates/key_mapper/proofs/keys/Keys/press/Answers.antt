@@ -5,7 +5,7 @@ use Rattle.std.proofs.Common.{sym, ◌∙◌, ap, subst, arith}
 use Rattle.key_layout.specs.Layout.{found_at}
 use Rattle.key_mapper.specs.declared.modifiers.Modifiers.{Modifiers}
 use Rattle.input_types.specs.declared.key.KeyArgs.{KeyArgs}
-use Rattle.key_mapper.specs.Key.{key_of, meta_of}
+use Rattle.key_mapper.specs.Key.{key_args_of, meta_of}
 use Rattle.key_mapper.specs.Held.{Held, KeysStandFor, with_key, AreBelow, counts, bits, sets_meta}
 use Rattle.key_mapper.proofs.Counts.{counts_more, counts_below}
 use Rattle.key_mapper.proofs.Down.{none_of, is_up, press_gives, stands_press}
@@ -52,4 +52,4 @@ returns-clause-ok c = λ past h.
     ∙ ap (λ n. Some (record { device = c.self.inside.device; scan = c.args.scan; code = n; meta = meta_of c.self.inside.layout (record { scan = c.args.scan; value = pos 1 } ∷ past); down = true })) c.code_of-code.ensures
     ∙ press_gives c.self.inside.device c.self.inside.layout past c.args.scan
     (is_up (record { device = c.self.inside.device; layout = c.self.inside.layout; down = c.self.inside.down.entries }) past c.args.scan stands none)
-    ∙ ap (λ (k : Held). key_of k.device k.layout past (record { scan = c.args.scan; value = pos 1 })) c.self.view_is
+    ∙ ap (λ (k : Held). key_args_of k.device k.layout past (record { scan = c.args.scan; value = pos 1 })) c.self.view_is

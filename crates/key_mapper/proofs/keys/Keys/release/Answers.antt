@@ -3,7 +3,7 @@ use Rattle.std.proofs.Common.{sym, ◌∙◌, ap, subst}
 use Rattle.key_layout.specs.Layout.{code_at}
 use Rattle.input_types.specs.declared.key.KeyArgs.{KeyArgs}
 use Rattle.key_mapper.specs.declared.modifiers.Modifiers.{Modifiers}
-use Rattle.key_mapper.specs.Key.{is_down, key_of, meta_of}
+use Rattle.key_mapper.specs.Key.{is_down, key_args_of, meta_of}
 use Rattle.key_mapper.specs.Held.{Held, KeysStandFor, without_key, counts, bits, sets_meta}
 use Rattle.key_mapper.proofs.Counts.{counts_fewer}
 use Rattle.key_mapper.proofs.Down.{is_held, release_gives, stands_release}
@@ -42,4 +42,4 @@ returns-clause-ok c = λ past h.
     ∙ ap (λ m. Some (record { device = c.self.inside.device; scan = c.args.scan; code = c.in_ok-code.code; meta = m; down = false })) meta
     ∙ ap (λ n. Some (record { device = c.self.inside.device; scan = c.args.scan; code = n; meta = meta_of c.self.inside.layout (record { scan = c.args.scan; value = pos 0 } ∷ past); down = false })) held.1
     ∙ release_gives c.self.inside.device c.self.inside.layout past c.args.scan held.0
-    ∙ ap (λ (k : Held). key_of k.device k.layout past (record { scan = c.args.scan; value = pos 0 })) c.self.view_is
+    ∙ ap (λ (k : Held). key_args_of k.device k.layout past (record { scan = c.args.scan; value = pos 0 })) c.self.view_is

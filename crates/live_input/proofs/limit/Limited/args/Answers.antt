@@ -3,7 +3,7 @@ use Rattle.std.proofs.Common.{◌≡◌, ◌∷◌, [], inl, inr, refl, sym, ap,
 use Rattle.std.proofs.lemmas.Bool.{true≢false}
 use Rattle.input_types.specs.DeviceRule.{device_of}
 use Rattle.device_table.specs.Table.{is_there}
-use Rattle.live_input.specs.Easing.{KeepsNamed}
+use Rattle.live_input.specs.Easing.{KeepsReported}
 use Rattle.live_input.specs.Giving.{Gives}
 use Rattle.live_input.specs.State.{latest}
 use Rattle.live_input.proofs.Eased.{limited}
@@ -49,7 +49,7 @@ pub returns-in-Err-clause-seats : goal.returns-in-Err-clause-seats
 returns-in-Err-clause-seats c = seats_of _ _ c.ease.ensures.clients
 
 pub returns-in-Ok-clause-named : goal.returns-in-Ok-clause-named
-returns-in-Ok-clause-named c = subst (λ m. KeepsNamed c.args.self.now.live.named m) (sym c.args-in-Ok.ensures.named) c.ease.ensures.named
+returns-in-Ok-clause-named c = subst (λ m. KeepsReported c.args.self.now.live.reported m) (sym c.args-in-Ok.ensures.named) c.ease.ensures.named
 
 pub returns-then-not-has_device-clause-reports : goal.returns-then-not-has_device-clause-reports
 returns-then-not-has_device-clause-reports c = λ ds es h. none_report c.args.self.now

@@ -24,7 +24,7 @@ returns-clause-choked c = λ ds es h.
     let mask = c.choked_after-choked.result in
     let are = choked_by es s.live.seats _ _ _ _ _ c.most.ensures c.choked-before.ensures (c.choked_after-choked.ensures ds es h) in
     chokes_other es s _ _ mask _ c.report.ensures c.set_choked.ensures are
-    (reports mask s.wanted.choked s.live.named c.mask_less.result _ (λ i. mask_union s.live.named c.mask_less.result i)
+    (reports mask s.wanted.choked s.live.reported c.mask_less.result _ (λ i. mask_union s.live.reported c.mask_less.result i)
     (λ i. c.mask_less.ensures.channels i ∙ ap (λ m. not (mask_has m i) && mask_has mask i) c.choked-before.ensures))
     (λ same. c.differ.ensures.other c.if-not-differ.false (λ i. same i ∙ sym (ap (λ m. mask_has m i) c.choked-before.ensures)))
 
@@ -36,7 +36,7 @@ returns-clause-is c = λ ds es h.
     subst (LiveIs ds es) (sym c.report.ensures)
     (live_noted ds es s.live _ h
     (reported_held ds es s.live s.wanted.most s.wanted.choked mask _ h are
-    (reports mask s.wanted.choked s.live.named c.mask_less.result _ (λ i. mask_union s.live.named c.mask_less.result i)
+    (reports mask s.wanted.choked s.live.reported c.mask_less.result _ (λ i. mask_union s.live.reported c.mask_less.result i)
     (λ i. c.mask_less.ensures.channels i ∙ ap (λ m. not (mask_has m i) && mask_has mask i) c.choked-before.ensures))))
 
 pub returns-clause-calm : goal.returns-clause-calm
@@ -51,8 +51,8 @@ returns-clause-clients c = clients_named _ _ _ c.report.ensures
 
 pub returns-clause-named : goal.returns-clause-named
 returns-clause-named c = λ i is.
-    ap (λ (l : LiveState). mask_has l.named i) c.report.ensures
-    ∙ reports_keep c.args.self.now.live.named _ (mask_has c.mask_less.result) (λ k. mask_union c.args.self.now.live.named c.mask_less.result k) i is
+    ap (λ (l : LiveState). mask_has l.reported i) c.report.ensures
+    ∙ reports_keep c.args.self.now.live.reported _ (mask_has c.mask_less.result) (λ k. mask_union c.args.self.now.live.reported c.mask_less.result k) i is
 
 pub returns-clause-clock : goal.returns-clause-clock
 returns-clause-clock c = ap (λ (l : LiveState). l.clock) c.report.ensures

@@ -34,7 +34,7 @@ pub returns-then-is_calm-clause-clients : goal.returns-then-is_calm-clause-clien
 returns-then-is_calm-clause-clients c = clients_raised _ _ _ c.raise-now.ensures.rest
 
 pub returns-then-is_calm-clause-named : goal.returns-then-is_calm-clause-named
-returns-then-is_calm-clause-named c = λ i is. ap (λ (l : LiveState). mask_has l.named i) c.raise-now.ensures.rest ∙ is
+returns-then-is_calm-clause-named c = λ i is. ap (λ (l : LiveState). mask_has l.reported i) c.raise-now.ensures.rest ∙ is
 
 pub returns-then-is_calm-clause-clock : goal.returns-then-is_calm-clause-clock
 returns-then-is_calm-clause-clock c = ap (λ (l : LiveState). l.clock) c.raise-now.ensures.rest
@@ -106,15 +106,15 @@ returns-clause-clients c =
 pub returns-in_err-show_wanted-clause-named : goal.returns-in_err-show_wanted-clause-named
 returns-in_err-show_wanted-clause-named c =
     let at = clocked c.args.now c.args.self.now.live c.raise-now.new.self c.choke.new.self.live c.raise-now.result c.raise-now.ensures.latest c.raise-now.ensures.rest c.choke.ensures.clock in
-    named_then c.args.self.now.live.named c.raise-now.new.self.named c.choke.new.self.live.named c.show_wanted.new.self.live.named
-    (ap (λ (l : LiveState). l.named) c.raise-now.ensures.rest) c.choke.ensures.named (c.show_wanted.ensures.rest at).named_is
+    named_then c.args.self.now.live.reported c.raise-now.new.self.reported c.choke.new.self.live.reported c.show_wanted.new.self.live.reported
+    (ap (λ (l : LiveState). l.reported) c.raise-now.ensures.rest) c.choke.ensures.named (c.show_wanted.ensures.rest at).reported_is
 
 pub returns-clause-named : goal.returns-clause-named
 returns-clause-named c =
     let at = clocked c.args.now c.args.self.now.live c.raise-now.new.self c.choke.new.self.live c.raise-now.result c.raise-now.ensures.latest c.raise-now.ensures.rest c.choke.ensures.clock in
     let rest = c.show_wanted.ensures.rest at in
-    named_then c.args.self.now.live.named c.raise-now.new.self.named c.choke.new.self.live.named c.ask_wanted.new.self.live.named
-    (ap (λ (l : LiveState). l.named) c.raise-now.ensures.rest) c.choke.ensures.named ((c.ask_wanted.ensures.rest (rest.clock_is ∙ at)).named_is ∙ rest.named_is)
+    named_then c.args.self.now.live.reported c.raise-now.new.self.reported c.choke.new.self.live.reported c.ask_wanted.new.self.live.reported
+    (ap (λ (l : LiveState). l.reported) c.raise-now.ensures.rest) c.choke.ensures.named ((c.ask_wanted.ensures.rest (rest.clock_is ∙ at)).reported_is ∙ rest.reported_is)
 
 pub returns-in_err-show_wanted-clause-clock : goal.returns-in_err-show_wanted-clause-clock
 returns-in_err-show_wanted-clause-clock c =

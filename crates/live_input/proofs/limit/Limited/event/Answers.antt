@@ -7,7 +7,7 @@ use Rattle.device_table.specs.Table.{StandsAt, reader_of}
 use Rattle.dispatcher.specs.Access.{any_waits, is_waiting}
 use Rattle.input_types.specs.DeviceRule.{device_state}
 use Rattle.live_input.specs.declared.limit.Limited.{Limited}
-use Rattle.live_input.specs.Easing.{KeepsNamed}
+use Rattle.live_input.specs.Easing.{KeepsReported}
 use Rattle.live_input.specs.Giving.{GivesEvent}
 use Rattle.live_input.specs.Room.{GivesAtOnce}
 use Rattle.live_input.specs.State.{latest}
@@ -89,7 +89,7 @@ pub returns-in-Err-clause-seats : goal.returns-in-Err-clause-seats
 returns-in-Err-clause-seats c = seats_of _ _ c.ease.ensures.clients
 
 pub returns-in-Ok-clause-named : goal.returns-in-Ok-clause-named
-returns-in-Ok-clause-named c = subst (λ m. KeepsNamed c.args.self.now.live.named m) (sym c.event.ensures.named) c.ease.ensures.named
+returns-in-Ok-clause-named c = subst (λ m. KeepsReported c.args.self.now.live.reported m) (sym c.event.ensures.named) c.ease.ensures.named
 
 pub returns-in-Ok-clause-others : goal.returns-in-Ok-clause-others
 returns-in-Ok-clause-others c = λ d low other.

@@ -3,7 +3,7 @@ use Rattle.std.proofs.Common.{◌≡◌, true, sym, ◌∙◌, subst}
 use Rattle.std.specs.Prelude.{OnOk}
 use Rattle.dispatch_calls.specs.declared.call.Call.TheVariants.{FocusOn}
 use Rattle.live_input.specs.Answers.{Makes}
-use Rattle.live_input.specs.Easing.{KeepsNamed}
+use Rattle.live_input.specs.Easing.{KeepsReported}
 use Rattle.live_input.specs.Limit.{unless_choked, with_request}
 use Rattle.live_input.specs.Showing.{channel_of, may_ask}
 use Rattle.live_input.specs.State.{latest}
@@ -34,7 +34,7 @@ pub returns-in-Ok-clause-clients : goal.returns-in-Ok-clause-clients
 returns-in-Ok-clause-clients c = clients_both _ _ _ c.ease.ensures.clients c.ask_for.ensures.clients
 
 pub returns-in-Ok-clause-named : goal.returns-in-Ok-clause-named
-returns-in-Ok-clause-named c = subst (λ m. KeepsNamed c.args.self.now.live.named m) (sym c.ask_for.ensures.named) c.ease.ensures.named
+returns-in-Ok-clause-named c = subst (λ m. KeepsReported c.args.self.now.live.reported m) (sym c.ask_for.ensures.named) c.ease.ensures.named
 
 pub returns-then-not-may_ask-clause-reports : goal.returns-then-not-may_ask-clause-reports
 returns-then-not-may_ask-clause-reports c = λ ds es h. none_report c.args.self.now

@@ -3,7 +3,7 @@ use Rattle.std.proofs.Common.{inl, inr, refl, sym, ap, ◌∙◌, subst}
 use Rattle.std.proofs.lemmas.Bool.{true≢false}
 use Rattle.dispatch_calls.specs.declared.call.Call.TheVariants.{Pilfer}
 use Rattle.live_input.specs.Answers.{Pilfers}
-use Rattle.live_input.specs.Easing.{KeepsNamed}
+use Rattle.live_input.specs.Easing.{KeepsReported}
 use Rattle.live_input.specs.Seats.{is_open}
 use Rattle.live_input.specs.State.{latest}
 use Rattle.live_input.proofs.Eased.{clients_both, limited}
@@ -33,7 +33,7 @@ pub returns-in-Ok-clause-clients : goal.returns-in-Ok-clause-clients
 returns-in-Ok-clause-clients c = clients_both _ _ _ c.ease.ensures.clients c.pilfer.ensures.clients
 
 pub returns-in-Ok-clause-named : goal.returns-in-Ok-clause-named
-returns-in-Ok-clause-named c = subst (λ m. KeepsNamed c.args.self.now.live.named m) (sym c.pilfer.ensures.named) c.ease.ensures.named
+returns-in-Ok-clause-named c = subst (λ m. KeepsReported c.args.self.now.live.reported m) (sym c.pilfer.ensures.named) c.ease.ensures.named
 
 pub returns-then-not-is_open-clause-reports : goal.returns-then-not-is_open-clause-reports
 returns-then-not-is_open-clause-reports c = λ ds es h. none_report c.args.self.now

@@ -3,7 +3,7 @@ use Rattle.std.proofs.Common.{map, sym, subst}
 use Rattle.std.specs.Prelude.{OnOk}
 use Rattle.dispatch_calls.specs.declared.call.Call.TheVariants.{Windows}
 use Rattle.live_input.specs.Answers.{Makes}
-use Rattle.live_input.specs.Easing.{KeepsNamed}
+use Rattle.live_input.specs.Easing.{KeepsReported}
 use Rattle.live_input.specs.Limit.{walled}
 use Rattle.live_input.specs.State.{latest}
 use Rattle.live_input.specs.Windows.{window_of}
@@ -27,7 +27,7 @@ pub returns-in-Ok-clause-clients : goal.returns-in-Ok-clause-clients
 returns-in-Ok-clause-clients c = clients_both _ _ _ c.ease.ensures.clients c.show_walled.ensures.clients
 
 pub returns-in-Ok-clause-named : goal.returns-in-Ok-clause-named
-returns-in-Ok-clause-named c = subst (λ m. KeepsNamed c.args.self.now.live.named m) (sym c.show_walled.ensures.named) c.ease.ensures.named
+returns-in-Ok-clause-named c = subst (λ m. KeepsReported c.args.self.now.live.reported m) (sym c.show_walled.ensures.named) c.ease.ensures.named
 
 pub returns-in-Ok-clause-reports : goal.returns-in-Ok-clause-reports
 returns-in-Ok-clause-reports c = λ ds es h.

@@ -3,7 +3,7 @@ use Rattle.std.proofs.Common.{◌||◌, is_some, inl, inr, refl, sym, ap, ◌∙
 use Rattle.std.proofs.lemmas.Bool.{true≢false}
 use Rattle.device_table.specs.Table.{StandsAt, reader_of}
 use Rattle.dispatcher.specs.Access.{any_waits, is_waiting}
-use Rattle.live_input.specs.Easing.{KeepsNamed}
+use Rattle.live_input.specs.Easing.{KeepsReported}
 use Rattle.live_input.specs.Fingers.{TouchGoes, framed}
 use Rattle.live_input.specs.Slots.{fingers_of}
 use Rattle.live_input.specs.State.{latest}
@@ -69,7 +69,7 @@ pub returns-in-Err-clause-seats : goal.returns-in-Err-clause-seats
 returns-in-Err-clause-seats c = holders_of _ _ c.ease.ensures.clients
 
 pub returns-in-Ok-clause-named : goal.returns-in-Ok-clause-named
-returns-in-Ok-clause-named c = subst (λ k. KeepsNamed c.args.self.now.live.named k) (sym c.touch_frame.ensures.named) c.ease.ensures.named
+returns-in-Ok-clause-named c = subst (λ k. KeepsReported c.args.self.now.live.reported k) (sym c.touch_frame.ensures.named) c.ease.ensures.named
 
 pub returns-then-not-has_device-clause-reports : goal.returns-then-not-has_device-clause-reports
 returns-then-not-has_device-clause-reports c = λ ds es h. none_report c.args.self.now

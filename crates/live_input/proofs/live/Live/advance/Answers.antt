@@ -19,7 +19,7 @@ returns-in-Ok-clause-ok c = λ ds es h.
     (λ mask a.
     subst (λ n. Advanced ds n (notified ds n es old.pending) mask old new) c.raise-now.ensures.latest
     (subst (λ ps. Advanced ds c.raise-now.result (notified ds c.raise-now.result es ps) mask old new) (ap (λ (s : LiveState). s.pending) rest)
-    (advanced_from ds c.raise-now.result _ mask _ _ _ (c.hand_in.ensures.named ∙ ap (λ (s : LiveState). s.named) rest) a)))
+    (advanced_from ds c.raise-now.result _ mask _ _ _ (c.hand_in.ensures.named ∙ ap (λ (s : LiveState). s.reported) rest) a)))
 
 pub returns-in-Ok-clause-reported : goal.returns-in-Ok-clause-reported
 returns-in-Ok-clause-reported c = λ ds es h.
@@ -38,7 +38,7 @@ returns-in-Ok-clause-err c = λ ds es h.
     inr
     (subst (λ n. Advances ds n (notified ds n es old.pending) old new) c.raise-now.ensures.latest
     (subst (λ ps. Advances ds c.raise-now.result (notified ds c.raise-now.result es ps) old new) (ap (λ (s : LiveState). s.pending) rest)
-    (advances_from ds c.raise-now.result _ _ _ _ (c.hand_in.ensures.named ∙ ap (λ (s : LiveState). s.named) rest) a))))
+    (advances_from ds c.raise-now.result _ _ _ _ (c.hand_in.ensures.named ∙ ap (λ (s : LiveState). s.reported) rest) a))))
 
 pub returns-in-Err-clause-err : goal.returns-in-Err-clause-err
 returns-in-Err-clause-err c = λ ds es h.

@@ -35,15 +35,15 @@ returns-in_default-clause-ok c = λ ds es h.
     let there = subst (LiveIs ds (extend ds es a.calls)) (sym c.self.view_is) a.is in
     advanced ds c.args.now es _ _ _ _ a
     (sym (c.next_due.ensures (extend ds es a.calls) (after_of (extend ds es a.calls) _ there.stands)) ∙ c.in_default.is)
-    (ap (λ (s : LiveState). s.named) c.self.view_is)
+    (ap (λ (s : LiveState). s.reported) c.self.view_is)
     (live_noted ds (extend ds es a.calls) _ 0 there (none_named 0 _ refl))
     refl
 
 pub returns-in_default-clause-reported : goal.returns-in_default-clause-reported
 returns-in_default-clause-reported c = λ ds es h.
-    let named = (c.loop-made.invariant.advances ds es h).is.named_are in
-    subst (IsMaskOfHeld c.self.inside.named) (ap (λ (s : LiveState). s.seats) c.self.view_is ∙ c.loop-made.invariant.clients.seats_are)
-    (subst (λ (s : LiveState). IsMaskOfHeld s.named s.seats) (sym c.self.view_is) named)
+    let named = (c.loop-made.invariant.advances ds es h).is.reported_are in
+    subst (IsMaskOfHeld c.self.inside.reported) (ap (λ (s : LiveState). s.seats) c.self.view_is ∙ c.loop-made.invariant.clients.seats_are)
+    (subst (λ (s : LiveState). IsMaskOfHeld s.reported s.seats) (sym c.self.view_is) named)
 
 pub returns-in_err-note-clause-still : goal.returns-in_err-note-clause-still
 returns-in_err-note-clause-still c = λ ds es h quiet.

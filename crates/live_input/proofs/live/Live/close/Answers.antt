@@ -47,17 +47,17 @@ returns-in-Ok-clause-after c = λ ds es h is.
       devices_are = ap (λ (s : LiveState). s.devices) c.self-2.view_is ∙ c.empty.ensures.rest.devices_are ∙ ap (λ (s : LiveState). s.devices) rest;
       pending_is = ap (λ (s : LiveState). s.pending) c.self-2.view_is ∙ c.empty.ensures.rest.pending_is ∙ ap (λ (s : LiveState). s.pending) rest;
       fingers_are = ap (λ (s : LiveState). s.fingers) c.self-2.view_is ∙ c.empty.ensures.rest.fingers_are ∙ ap (λ (s : LiveState). s.fingers) rest;
-      named_are = λ d.
+      reported_are = λ d.
           c.mask_without-self-inside.ensures.channels d
           ∙ ap (λ m. not (d == k) && mask_has m d)
-          (ap (λ (s : LiveState). s.named) c.self-2.view_is ∙ c.empty.ensures.rest.named_is ∙ ap (λ (s : LiveState). s.named) rest);
+          (ap (λ (s : LiveState). s.reported) c.self-2.view_is ∙ c.empty.ensures.rest.reported_is ∙ ap (λ (s : LiveState). s.reported) rest);
     })
     (ap (λ (s : LiveState). s.clock) c.self-2.view_is ∙ c.empty.ensures.rest.clock_is ∙ ap (λ (s : LiveState). s.clock) rest)
     (record {
       reached =
           reaches_same ds _ _ _ _ settled.reached
           (seat_goes ds _ _ there k _ held.0 held.1 high tenants c.self-2.inside.opened c.vacate.new.seats c.vacate.ensures c.mask_without-self-inside.result
-          (named_less c.self-2.inside.seats k _ c.self-2.inside.named c.mask_without-self-inside.result held.0 there.named_are c.mask_without-self-inside.ensures.channels));
+          (named_less c.self-2.inside.seats k _ c.self-2.inside.reported c.mask_without-self-inside.result held.0 there.reported_are c.mask_without-self-inside.ensures.channels));
       done = settled.done;
     })
 

@@ -50,7 +50,7 @@ loop-made-preserved c =
             devices_are = ap (λ (s : LiveState). s.devices) rest ∙ c.loop-made.invariant.rest.devices_are;
             pending_is = ap (λ (s : LiveState). s.pending) rest ∙ c.loop-made.invariant.rest.pending_is;
             fingers_are = ap (λ (s : LiveState). s.fingers) rest ∙ c.loop-made.invariant.rest.fingers_are;
-            named_is = ap (λ (s : LiveState). s.named) rest ∙ c.loop-made.invariant.rest.named_is;
+            reported_is = ap (λ (s : LiveState). s.reported) rest ∙ c.loop-made.invariant.rest.reported_is;
             clock_is = ap (λ (s : LiveState). s.clock) rest ∙ c.loop-made.invariant.rest.clock_is;
           };
     }

@@ -29,7 +29,7 @@ loop-preserved c =
             devices_are = c.make.ensures.rest.devices_are ∙ c.loop.invariant.rest.devices_are;
             pending_is = c.make.ensures.rest.pending_is ∙ c.loop.invariant.rest.pending_is;
             fingers_are = c.make.ensures.rest.fingers_are ∙ c.loop.invariant.rest.fingers_are;
-            named_is = c.make.ensures.rest.named_is ∙ c.loop.invariant.rest.named_is;
+            reported_is = c.make.ensures.rest.reported_is ∙ c.loop.invariant.rest.reported_is;
             clock_is = c.make.ensures.rest.clock_is ∙ c.loop.invariant.rest.clock_is;
           };
       windows = c.make.ensures.windows ∙ c.loop.invariant.windows;

@@ -51,7 +51,7 @@ loop-made-preserved c =
             fingers_are = ap (λ (s : LiveState). s.fingers) c.self-in-loop-made.view_is ∙ c.notify.ensures.rest.fingers_are ∙ c.loop-made.invariant.seats.fingers_are;
             terms_are = ap (λ (s : LiveState). s.terms) c.self-in-loop-made.view_is ∙ c.notify.ensures.rest.terms_are ∙ c.loop-made.invariant.seats.terms_are;
           };
-      named = ap (λ (s : LiveState). s.named) c.self-in-loop-made.view_is ∙ c.notify.ensures.rest.named_is ∙ c.loop-made.invariant.named;
+      named = ap (λ (s : LiveState). s.reported) c.self-in-loop-made.view_is ∙ c.notify.ensures.rest.reported_is ∙ c.loop-made.invariant.named;
       clock = ap (λ (s : LiveState). s.clock) c.self-in-loop-made.view_is ∙ c.notify.ensures.rest.clock_is ∙ c.loop-made.invariant.clock;
     }
 

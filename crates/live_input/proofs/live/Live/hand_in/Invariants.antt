@@ -15,6 +15,6 @@ invariant-loop-made l =
       steps : l.made + length l.self.pending ≡ length l.initial.self.pending;
       devices : l.self.devices ≡ l.initial.self.devices;
       seats : SameSeats l.initial.self l.self;
-      named : l.self.named ≡ l.initial.self.named;
+      named : l.self.reported ≡ l.initial.self.reported;
       clock : l.self.clock ≡ l.initial.self.clock;
     }

@@ -1,7 +1,7 @@
 -- The channels reported by the call are recorded with those before.
 use Rattle.std.proofs.Common.{◌||◌, sym, ap, ap₂, ◌∙◌, subst}
 use Rattle.window_snapshot.specs.Mask.{mask_has}
-use Rattle.dispatch_history.specs.Delivery.{is_named_by}
+use Rattle.dispatch_history.specs.Delivery.{is_reported_by}
 use Rattle.dispatch_history.specs.Legal.{answered}
 use Rattle.live_input.specs.Standing.{IsMaskOfHeld, LiveIs}
 use Rattle.live_input.specs.State.{LiveState}
@@ -19,11 +19,11 @@ returns-in-Ok-clause-after c = λ ds es h plain own.
     (named_more ds es c.args.self.now h c.args.call.now _
     (λ k.
     mask_union _ _ k
-    ∙ ap₂ (λ a b. a || b) (ap (λ (s : LiveState). mask_has s.named k) rest)
-    (c.named_by.ensures k ∙ ap (λ r. is_named_by c.args.call.now r k) (c.in-Ok.ensures.reply ds es h)))))
+    ∙ ap₂ (λ a b. a || b) (ap (λ (s : LiveState). mask_has s.reported k) rest)
+    (c.reported_by.ensures k ∙ ap (λ r. is_reported_by c.args.call.now r k) (c.in-Ok.ensures.reply ds es h)))))
 
 pub returns-in-Ok-clause-named : goal.returns-in-Ok-clause-named
 returns-in-Ok-clause-named c = λ ds es h k.
     mask_union _ _ k
-    ∙ ap₂ (λ a b. a || b) (ap (λ (s : LiveState). mask_has s.named k) (c.self.view_is ∙ c.apply.ensures.rest))
-    (c.named_by.ensures k ∙ ap (λ r. is_named_by c.args.call.now r k) (c.in-Ok.ensures.reply ds es h))
+    ∙ ap₂ (λ a b. a || b) (ap (λ (s : LiveState). mask_has s.reported k) (c.self.view_is ∙ c.apply.ensures.rest))
+    (c.reported_by.ensures k ∙ ap (λ r. is_reported_by c.args.call.now r k) (c.in-Ok.ensures.reply ds es h))

@@ -52,7 +52,7 @@ returns-in-Ok-clause-after c = λ ds es h.
     record {
       is =
           seat_goes ds fs _ there k _ next.from next.to (c.in-Ok.ensures.opened ds es h next) tenants (c.self-2.inside.opened + 1) c.occupy.new.seats
-          c.occupy.ensures c.self-2.inside.named (named_new c.self-2.inside.seats k _ c.self-2.inside.named refl all next.from next.to there.named_are);
+          c.occupy.ensures c.self-2.inside.reported (named_new c.self-2.inside.seats k _ c.self-2.inside.reported refl all next.from next.to there.reported_are);
       before_is =
           ap (λ s. s.before)
           (ap (λ ss. seat_of ss k) c.occupy.ensures ∙ seat_set c.self-2.inside.seats k _ there.seats_are.all next.from next.to)

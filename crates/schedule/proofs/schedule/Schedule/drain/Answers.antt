@@ -18,16 +18,16 @@ returns-clause-after c = λ how plan es h.
     let some : (is_opened es c.args.channel && nat_lt (gone c.self.inside.dispatcher c.args.channel) (length (stream es c.args.channel))) ≡ true =
     sym (c.has_messages.ensures es before.stands) ∙ c.if-not-has_messages.false in
     let there_is = (and_parts (is_opened es c.args.channel) _ some).0 in
-    drains how plan es _ c.let_each_go.new.self c.drain_left.new.streams.items c.args.channel c.in_ok-left.left _ before there_is
+    drains how plan es _ c.release_each.new.self c.drain_left.new.streams.items c.args.channel c.in_ok-left.left _ before there_is
     (c.in_ok-left.ensures.count es before.stands there_is) c.saturating_add-self-inside.ensures
     (c.in_ok-left.ensures.lines es before.stands there_is)
-    (c.let_each_go.ensures.known es before.stands) c.let_each_go.ensures.displays
-    (c.let_each_go.ensures.gone es before.stands there_is) c.let_each_go.ensures.others c.let_each_go.ensures.anrs
+    (c.release_each.ensures.known es before.stands) c.release_each.ensures.displays
+    (c.release_each.ensures.gone es before.stands there_is) c.release_each.ensures.others c.release_each.ensures.anrs
 
 pub returns-clause-all : goal.returns-clause-all
 returns-clause-all c = λ how plan es h there_is.
     let before = subst (HasWith how plan es) (sym c.self.view_is) h in
-    c.let_each_go.ensures.gone es before.stands there_is
+    c.release_each.ensures.gone es before.stands there_is
 
 pub returns-then-not-has_messages-clause-all : goal.returns-then-not-has_messages-clause-all
 returns-then-not-has_messages-clause-all c = λ how plan es h there_is.
@@ -44,7 +44,7 @@ returns-then-not-has_messages-clause-all c = λ how plan es h there_is.
 pub returns-clause-more : goal.returns-clause-more
 returns-clause-more c =
     record {
-      on = λ es k. same_more es _ _ c.let_each_go.ensures.displays c.let_each_go.ensures.known (subst (λ (s : ScheduleState). ComesTo es s.dispatcher) (sym c.self.view_is) k);
+      on = λ es k. same_more es _ _ c.release_each.ensures.displays c.release_each.ensures.known (subst (λ (s : ScheduleState). ComesTo es s.dispatcher) (sym c.self.view_is) k);
       latest = ap (λ (s : ScheduleState). s.latest) c.self.view_is;
     }
 

@@ -19,11 +19,11 @@ returns-clause-after c = λ how plan es h.
     let there_is = counts_opened es c.args.channel c.in-Some.counts outgoing in
     let are : c.in-Some.counts ≡ count_of es c.args.channel = counts_are es c.args.channel c.in-Some.counts there_is outgoing in
     let dead : live (past_of es) c.args.channel ≡ false = sym (ap (λ k. k.live) are) ∙ c.if-counts.false in
-    drains how plan es _ c.let_all_go.new.self c.drain_left.new.streams.items c.args.channel c.in_ok-left.left _ before there_is
+    drains how plan es _ c.release_all.new.self c.drain_left.new.streams.items c.args.channel c.in_ok-left.left _ before there_is
     (c.in_ok-left.ensures.count es before.stands there_is) c.saturating_add-self-inside.ensures
     (c.in_ok-left.ensures.lines es before.stands there_is)
-    (c.let_all_go.ensures.known es before.stands) c.let_all_go.ensures.displays
-    (c.let_all_go.ensures.gone es before.stands there_is dead) c.let_all_go.ensures.others c.let_all_go.ensures.anrs
+    (c.release_all.ensures.known es before.stands) c.release_all.ensures.displays
+    (c.release_all.ensures.gone es before.stands there_is dead) c.release_all.ensures.others c.release_all.ensures.anrs
 
 pub returns-clause-keeps : goal.returns-clause-keeps
 returns-clause-keeps c = λ how plan es h left k low idle.
@@ -34,14 +34,14 @@ returns-clause-keeps c = λ how plan es h left k low idle.
     let are : c.in-Some.counts ≡ count_of es c.args.channel = counts_are es c.args.channel c.in-Some.counts there_is outgoing in
     let dead : live (past_of es) c.args.channel ≡ false = sym (ap (λ k. k.live) are) ∙ c.if-counts.false in
     elim (cases_eq k c.args.channel) [
-      | inl e ↦ subst (λ n. gone c.let_all_go.new.self n ≡ length (stream es n)) (sym e) (c.let_all_go.ensures.gone es before.stands there_is dead)
-      | inr ne ↦ c.let_all_go.ensures.others k low (ne_eqb k c.args.channel ne) ∙ left_before k low idle
+      | inl e ↦ subst (λ n. gone c.release_all.new.self n ≡ length (stream es n)) (sym e) (c.release_all.ensures.gone es before.stands there_is dead)
+      | inr ne ↦ c.release_all.ensures.others k low (ne_eqb k c.args.channel ne) ∙ left_before k low idle
     ]
 
 pub returns-clause-more : goal.returns-clause-more
 returns-clause-more c =
     record {
-      on = λ es k. same_more es _ _ c.let_all_go.ensures.displays c.let_all_go.ensures.known (subst (λ (s : ScheduleState). ComesTo es s.dispatcher) (sym c.self.view_is) k);
+      on = λ es k. same_more es _ _ c.release_all.ensures.displays c.release_all.ensures.known (subst (λ (s : ScheduleState). ComesTo es s.dispatcher) (sym c.self.view_is) k);
       latest = ap (λ (s : ScheduleState). s.latest) c.self.view_is;
     }
 

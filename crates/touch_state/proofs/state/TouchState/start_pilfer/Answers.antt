@@ -1,13 +1,13 @@
 use Rattle.std.proofs.Common.{◌==◌, ◌≡◌, ap, sym, ◌∙◌, true, subst}
 use Rattle.window_snapshot.specs.Mask.{mask_with}
-use Rattle.touch_state.specs.Rows.{Kept}
+use Rattle.touch_state.specs.Rows.{AreHolders}
 use Rattle.touch_state.specs.Touches.{Touches, any, Changes, none}
 use Rattle.touch_state.proofs.Steps.{pilfers_more, kept_pilferer}
 use Rattle.touch_state.proofs.state.TouchState.start_pilfer.Goals as goal
 
 pub invariant_of-self : goal.invariant_of-self
 invariant_of-self c =
-    subst (Kept c.self.inside.rows c.self.inside.holders) (sym c.mask_with-self-inside.ensures)
+    subst (AreHolders c.self.inside.rows c.self.inside.holders) (sym c.mask_with-self-inside.ensures)
     (kept_pilferer c.self.inside.rows c.self.inside.holders c.self.inside.pilferers c.args.channel c.self.invariant c.requires.channel
     (ap (λ t. any t c.args.channel) c.self.view_is ∙ c.requires.holds))
 

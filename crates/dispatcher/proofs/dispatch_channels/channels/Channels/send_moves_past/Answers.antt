@@ -4,7 +4,7 @@ use Rattle.bits32.specs.Set.{is_in}
 use Rattle.input_types.specs.declared.message.Body.TheVariants.{Motion as MotionBody, Focus}
 use Rattle.routing_rules.specs.Outgoing.{listing}
 use Rattle.dispatcher.specs.DispatchTables.Dues.{due_in}
-use Rattle.dispatcher.specs.DispatchChannels.Heard.{body_from}
+use Rattle.dispatcher.specs.DispatchChannels.FromOrigin.{body_from}
 use Rattle.dispatcher.specs.InputChannel.Moves.{move_of}
 use Rattle.dispatcher.proofs.DispatchChannels.Picking.{channel_low}
 use Rattle.dispatcher.proofs.DispatchChannels.Wholes.{whole_kept}
