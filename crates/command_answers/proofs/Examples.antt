@@ -43,7 +43,7 @@ another_name a h = absurd (let same : 97 ≡ 98 = ap (λ (xs : List ℕ). get_or
 
 -- of a session with a display alone, whose file has a key that nothing reads, and of a recording without lines
 nothing_recorded :
-    looked_at (record { displays = []; devices = []; channels = []; steps = []; end = 0 }, codes "key display.depth\n") ([], [])
+    looked_at (record { displays = []; devices = []; channels = []; steps = []; end = 0; repeats = None }, codes "key display.depth\n") ([], [])
     ≡ codes "lines 0 blank 0 other 0 unknown 0 events 0\nsteps 0 before 0 within 0 after 0\nkey display.depth\nhint no device\n"
 unfolding digits
 nothing_recorded = refl
