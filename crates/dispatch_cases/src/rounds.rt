@@ -134,10 +134,15 @@ fn round(
     Ok(taken)
 }
 
-/// So many channels are opened.
-fn open(dispatcher: &mut Dispatcher, channels: u32, terms: Terms) -> Result<(), AllocError> {
+/// A channel is opened on these terms.
+fn open_one(dispatcher: &mut Dispatcher, terms: &Terms) -> Result<(), AllocError> {
+    make(dispatcher, &Call::Open { terms: *terms })
+}
+
+/// So many channels are opened on these terms.
+fn open(dispatcher: &mut Dispatcher, channels: u32, terms: &Terms) -> Result<(), AllocError> {
     for _ in 0..channels {
-        make(dispatcher, &Call::Open { terms })?;
+        open_one(dispatcher, terms)?;
     }
     Ok(())
 }
@@ -151,7 +156,7 @@ fn show(
 ) -> Result<(), AllocError> {
     if let Some(limit) = Limit::new(5_000_000) {
         let repeats = Some(Repeats::android());
-        open(dispatcher, channels, Terms { limit, repeats })?;
+        open(dispatcher, channels, &Terms { limit, repeats })?;
     }
     match windows(alloc, numbers) {
         Some(call) => make(dispatcher, &call),
