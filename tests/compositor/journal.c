@@ -277,6 +277,10 @@ static void write_session(const struct server *s, FILE *file)
 	int devices = INPUTFLINGER_MAX_DEVICES;
 
 	fprintf(file, "# Each pixel is %d units.\nend_us = %" PRIu64 "\n\n", s->unit, journal.last_us);
+	if (journal.repeats.first_us == 0)
+		fputs("repeat = false\n", file);
+	else
+		fprintf(file, "repeat_us = [%" PRIu64 ", %" PRIu64 "]\n", journal.repeats.first_us, journal.repeats.next_us);
 	fprintf(file, "[display]\nwidth = %d\nheight = %d\n", UNITS, UNITS);
 	while (devices > 0 && !journal.kinds[devices])
 		devices--;
@@ -291,10 +295,6 @@ static void write_session(const struct server *s, FILE *file)
 		fprintf(file, "\n[[channel]]\nname = \"%s\"\nlive = %u\nlimit_ms = %" PRIu64 "\nfinishes = %s\n",
 			channel->name, channel->live, journal.limit_us / 1000,
 			channel->was_sent && !channel->has_finished ? "false" : "true");
-		if (journal.repeats.first_us == 0)
-			fputs("repeat = false\n", file);
-		else
-			fprintf(file, "repeat_us = [%" PRIu64 ", %" PRIu64 "]\n", journal.repeats.first_us, journal.repeats.next_us);
 	}
 	fputs(journal.steps_text, file);
 }
