@@ -63,13 +63,24 @@
  *
  * Structs that grow
  *
- * A later release may add members at the end of a message, a fault, a state, a panel, a window and options. A program that
- * was compiled before still runs, since each call that takes one of them also takes its size: those calls are inline here,
- * and hand the size that this header gives the struct to the function of the library whose name ends in _sized. A binding
- * of another language calls that function with the size of its own struct. A member that your struct does not have counts
- * as 0, which always means what the release before did. Members that your struct has and the library does not have must be
- * 0, or the answer is INPUTFLINGER_OUT_OF_RANGE; the library writes them as 0. A size below that of the first release is
- * INPUTFLINGER_OUT_OF_RANGE. No other struct ever changes.
+ * A later release may add members at the end of a message, a fault, a state, a panel, a window, options and repeats. A
+ * program that was compiled before still runs, since each call that takes one of them also takes its size: those calls are
+ * inline here, and hand the size that this header gives the struct to the function of the library whose name ends in
+ * _sized. A binding of another language calls that function with the size of its own struct. A member that your struct
+ * does not have counts as 0, which always means what the release before did. Members that your struct has and the library
+ * does not have must be 0, or the answer is INPUTFLINGER_OUT_OF_RANGE; the library writes them as 0. A size below that of
+ * the first release is INPUTFLINGER_OUT_OF_RANGE. No other struct ever changes.
+ *
+ * Units
+ *
+ * Positions count units of a display. You choose the unit, one for all of a display: a pixel, half of one, or 1/256 as in
+ * Wayland's fixed-point numbers. The rules compare positions and subtract the corner of a window, so they hold for any
+ * unit. The text below says pixel for a unit.
+ *
+ * Frames, rectangles and positions are int32_t numbers; a difference that does not fit becomes the nearest number that
+ * does. With units of 1/256 pixel that is some 8 million pixels to each side. A panel turns its raw positions into whole
+ * units of a display that is at most 16,384 units wide and high: with units of 1/8 pixel 2,048 pixels, and with 1/256
+ * pixel 64. What inputflinger_live_args hands in has no such bound.
  *
  * Times are microseconds of a clock of your own, at most 10^18. Each call that takes the current time also accepts a time
  * before that of an earlier call: the latest time that was handed in counts. The time of a call that is refused and
@@ -154,6 +165,7 @@ enum inputflinger_status {
 const char *inputflinger_status_text(int status);
 
 struct inputflinger_client;
+struct inputflinger_displays;
 struct inputflinger_fault;
 struct inputflinger_judge;
 struct inputflinger_live;
@@ -161,6 +173,7 @@ struct inputflinger_message;
 struct inputflinger_options;
 struct inputflinger_panel;
 struct inputflinger_rect;
+struct inputflinger_repeats;
 struct inputflinger_state;
 struct inputflinger_window;
 
@@ -171,6 +184,9 @@ int inputflinger_judge_step_sized(struct inputflinger_judge *judge, const struct
 				  size_t message_size, struct inputflinger_fault *fault, size_t fault_size);
 int inputflinger_judge_state_sized(const struct inputflinger_judge *judge, struct inputflinger_state *state,
 				   size_t state_size);
+int inputflinger_live_new_sized(struct inputflinger_live *live, uint64_t limit_us,
+				const struct inputflinger_repeats *repeats, size_t repeats_size,
+				const struct inputflinger_displays *displays);
 int inputflinger_live_add_touch_sized(struct inputflinger_live *live, uint8_t display, uint8_t slots,
 				      const struct inputflinger_panel *panel, size_t panel_size, uint8_t *device);
 int inputflinger_live_args_sized(struct inputflinger_live *live, uint64_t now_us,
@@ -239,6 +255,9 @@ struct inputflinger_pointer {
  *     key       device (1 to 8), scan (the kernel's scan code), code (Android's key code), meta (KeyEvent's
  *               getMetaState), flags, repeat, down (1 or 0)
  *     focus     focus (1 if the window gets the focus, 0 if it loses it)
+ *
+ * In a message that a client receives, moment_us is the clock at which the service sent it, not the time of the event that
+ * caused it. The two differ if the event was handed in later than it happened, or waited for memory.
  */
 struct inputflinger_message {
 	uint64_t seq;
@@ -497,6 +516,16 @@ struct inputflinger_displays {
 };
 
 /*
+ * When a key that a client's window holds is repeated: first_us after it went down, and then next_us after each repeat, in
+ * microseconds. Each is 1,000 to 600,000,000; or both are 0, and no key is repeated. That is for clients that repeat keys by
+ * themselves, as those of Wayland do.
+ */
+struct inputflinger_repeats {
+	uint64_t first_us;
+	uint64_t next_us;
+};
+
+/*
  * The handle of a live service. Its members belong to the library; a program only sets all bytes to 0, once.
  *
  * The loop of a compositor waits for its devices, for its clients, and for the time that inputflinger_live_due reports:
@@ -526,14 +555,30 @@ struct inputflinger_live {
 
 /*
  * Makes a service without clients and devices. A client that leaves a message unfinished for limit_us, 1,000 to
- * 600,000,000 microseconds, is reported as unresponsive. displays may be NULL: then each device is on display 0.
+ * 600,000,000 microseconds, is reported as unresponsive. repeats may be NULL: then held keys are repeated as Android does
+ * it, after {500000, 50000}. displays may be NULL: then each device is on display 0. None of this changes later.
+ *
+ * A key goes down at 1,000,000 in a client's window and stays down. The limit is 5,000,000, and the client finishes nothing:
+ *
+ *     repeats              due                             what advance to that time does
+ *     NULL                 1,500,000, 1,550,000, ..        the client has repeat 1, then repeat 2, ..
+ *     {300000, 40000}      1,300,000, 1,340,000, ..        the same, sooner
+ *     {0, 0}               6,000,000                       no repeat: the client is reported
+ *
+ * The handle comes first, and of the numbers all are read before anything else: a handle that is not free is reported
+ * even if a number is out of its range.
  *
  *     INPUTFLINGER_OK            the handle has a service
  *     INPUTFLINGER_TAKEN         the handle is not free
- *     INPUTFLINGER_OUT_OF_RANGE  limit_us, or a display
+ *     INPUTFLINGER_OUT_OF_RANGE  limit_us, a delay of repeats, one delay of 0 beside another number, or a display
  *     INPUTFLINGER_NO_MEMORY     the handle is still free
  */
-int inputflinger_live_new(struct inputflinger_live *live, uint64_t limit_us, const struct inputflinger_displays *displays);
+static inline int inputflinger_live_new(struct inputflinger_live *live, uint64_t limit_us,
+					const struct inputflinger_repeats *repeats,
+					const struct inputflinger_displays *displays)
+{
+	return inputflinger_live_new_sized(live, limit_us, repeats, sizeof *repeats, displays);
+}
 
 /* Frees a service and everything that it has. The handle is then free. */
 int inputflinger_live_free(struct inputflinger_live *live);
@@ -604,8 +649,9 @@ int inputflinger_live_remove_device(struct inputflinger_live *live, uint64_t now
  *     INPUTFLINGER_OK            it was taken and dispatched
  *     INPUTFLINGER_OUT_OF_RANGE  now_us or device
  *     INPUTFLINGER_NO_DEVICE     the device is not plugged in
- *     INPUTFLINGER_INCONSISTENT  a part of what it gives does not fit what inputflinger_live_args handed in for the device
- *                                before: that part was not taken, the rest was dispatched, and the clock advanced
+ *     INPUTFLINGER_INCONSISTENT  a part of what it gives, or of input that waited for memory, does not fit what
+ *                                inputflinger_live_args handed in for its device before: that part was not taken, the
+ *                                rest was dispatched, and the clock advanced
  *     INPUTFLINGER_NO_MEMORY     it was not taken: nothing changed
  *     INPUTFLINGER_WAITS         out of memory after it was taken: it is dispatched, in its order, by the next call that
  *                                has the memory and hands something in or advances; not if room was reserved for it
@@ -936,7 +982,9 @@ int inputflinger_live_finish_through(struct inputflinger_live *live, uint64_t no
  *                                                     INPUTFLINGER_OK: a is to be released
  *     advance                                         INPUTFLINGER_OK, mask 0: a has its window and the focus again
  *
- * A call that runs out of memory may have choked or released clients, also where it says that nothing else changed.
+ * A call that may send something does this first. So if it then runs out of memory, or refuses a finger, a pilfer or input
+ * that does not fit, it may have advanced the clock, and choked or released clients, also where it says that nothing else
+ * changed.
  */
 
 /*
@@ -954,16 +1002,17 @@ int inputflinger_live_is_choked(const struct inputflinger_live *live, const stru
  * Time.
  *
  *     event 1: a key goes down at 1,000,000           INPUTFLINGER_OK; the client receives it and does not finish it
- *     due                                             INPUTFLINGER_OK, 1,500,000: the key is repeated
+ *     due                                             INPUTFLINGER_OK, 1,500,000: the key is repeated, with the repeats
+ *                                                     of Android
  *     advance 1,500,000                               INPUTFLINGER_OK, mask 0: the client has the repeat
  *     advance 6,000,000                               INPUTFLINGER_OK, mask 0x1: with a limit of 5,000,000 it is reported,
  *                                                     and is given no pointer and no key until it finishes what is late
  */
 
 /*
- * Reports the first time at which something is due: a client that leaves a message unfinished for the limit, or the
- * repeat of a held key. It may be later than 10^18. While input waits for memory, it is the clock, and so it is while a
- * client is to be choked or released, or was choked and is not reported yet.
+ * Reports the first time at which something is due: a client that leaves a message unfinished for the limit, or, if keys
+ * are repeated, the repeat of a held key. It may be later than 10^18. While input waits for memory, it is the clock, and
+ * so it is while a client is to be choked or released, or was choked and is not reported yet.
  *
  *     INPUTFLINGER_OK       moment_us is written
  *     INPUTFLINGER_NOTHING  nothing is due
@@ -1021,6 +1070,25 @@ int inputflinger_live_is_responsive(const struct inputflinger_live *live, const 
  */
 int inputflinger_live_holds(const struct inputflinger_live *live, const struct inputflinger_client *client, uint8_t device,
 			    uint32_t *ids);
+
+/*
+ * Reports the first key that is down on a device, 1 to 8, from a scan code on: the least scan code of those that are down
+ * and at least from. So a loop reports all of them in rising order:
+ *
+ *     first_key(device 1, from 0)                     INPUTFLINGER_OK, scan 30: the key is down
+ *     first_key(device 1, from 31)                    INPUTFLINGER_OK, scan 42
+ *     first_key(device 1, from 43)                    INPUTFLINGER_NOTHING
+ *
+ * A key is down from the input that puts it down to the one that lifts it, and no longer than until its device is removed
+ * or reset; it does not matter whether a client was sent it. A window that gets the focus while a key is down is sent
+ * nothing for that key, neither a DOWN then nor an UP when the key goes up. A client that shall know of such keys, such as
+ * one of Wayland by wl_keyboard.enter, is told by you.
+ *
+ *     INPUTFLINGER_OK            scan is written
+ *     INPUTFLINGER_NOTHING       no key from there on is down, or there is no such device
+ *     INPUTFLINGER_OUT_OF_RANGE  device
+ */
+int inputflinger_live_first_key(const struct inputflinger_live *live, uint8_t device, uint32_t from, uint16_t *scan);
 
 /* A file that a run reads: its bytes, which may be NULL if there are none. */
 struct inputflinger_file {
