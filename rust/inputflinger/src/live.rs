@@ -994,8 +994,8 @@ impl Live {
     }
 
     /// The first key that is down on a device: the least scan code of those that are down and at least `from`. A window
-    /// that gets the focus while a key is down is sent nothing for that key; a client that shall know of it, such as
-    /// one of Wayland by `wl_keyboard.enter`, is told by you.
+    /// that gets the focus while a key is down is sent nothing for that key; tell a client that must know of it, such
+    /// as one of Wayland, by `wl_keyboard.enter`.
     ///
     /// ```
     /// use inputflinger::{Live, LiveError, Repeats};
