@@ -30,7 +30,7 @@ gone d c = (channel_of d.channels c).gone
 abbrev pub anrs_released : Dispatching → ℕ
 anrs_released d = d.channels.anrs.gone
 
--- the messages of a channel that was opened, but for those that were released
+-- the messages of a channel that was opened, except those that were released
 abbrev pub messages_of : List Effect → Dispatching → ℕ → Option (List Message)
 messages_of es d c = if is_opened es c then Some (drop (gone d c) (reverse (stream es c))) else None
 
@@ -38,7 +38,7 @@ messages_of es d c = if is_opened es c then Some (drop (gone d c) (reverse (stre
 abbrev pub has_messages : List Effect → Dispatching → ℕ → Bool
 has_messages es d c = is_opened es c && nat_lt (gone d c) (length (stream es c))
 
--- the message that a reply hands out
+-- the message that a reply has
 abbrev pub got : Reply → Option Message
 got (Got m) = Some m
 got answer = None
@@ -60,7 +60,7 @@ any_waits (a ∷ later) = true
 abbrev pub is_waiting : List Effect → Bool
 is_waiting es = any_waits (inbound (past_of es))
 
--- when the next repeat is due, where no args wait
+-- when the next repeat is due, if no args wait
 abbrev pub next_repeat : List Effect → Option ℕ
 next_repeat es = if is_waiting es then None else repeat_due es
 

@@ -1,4 +1,4 @@
--- What reporting windows unresponsive makes of the tables.
+-- How reporting unresponsive windows changes the tables.
 use Rattle.std.specs.Prelude.{◌≡◌, ℕ, List, None}
 use Rattle.input_types.specs.declared.key.KeyMsg.{KeyMsg}
 use Rattle.route_split.specs.declared.mark.Mark.TheVariants.{Mute}
@@ -9,7 +9,7 @@ use Rattle.dispatcher.specs.declared.tables.Routing.{Routing}
 use Rattle.dispatcher.specs.Carrying.{IsOf, CarriesOut}
 use Rattle.dispatcher.specs.Keying.{target_number}
 
--- the channels of a mask are named, and then the round is carried out in which all is taken from them, and the key target is sent these keys
+-- the channels of a mask are reported; then a round takes everything from their windows, and sends the key target these keys
 pub record Names (mask : ℕ) (keys : List KeyMsg) (place clock : ℕ) (old new : Routing) : Type 0 where
   pub round : Round
   pub is : IsOf (Mute mask) None (target_number old.focus) keys 0 0 round

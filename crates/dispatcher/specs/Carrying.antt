@@ -1,4 +1,4 @@
--- What carrying out a step makes of the tables.
+-- How carrying out a step changes the tables.
 use Rattle.std.specs.Prelude.{◌≡◌, ℕ, false, List, [], Option, None}
 use Rattle.std.specs.Option.{option_copied}
 use Rattle.input_types.specs.declared.axis.Pixel.{Pixel}
@@ -23,19 +23,19 @@ use Rattle.dispatcher.specs.Covering.{CoversGo, GivesNone}
 use Rattle.dispatcher.specs.Keying.{target_number}
 use Rattle.dispatcher.specs.Tables.{ReleasesNone}
 
--- the tables of touches change by a mark, at a place
+-- the tables of touches change by the mark of a step, at the index of the step
 abbrev pub TakesMark : Mark → (place : ℕ) → (old new : List Touches) → Type 0
 TakesMark mark place old new = ChangesAll old new (gives mark) (takes (taking old mark)) place (pilfers (taking old mark))
 
--- Channels of a mask are sent what the rules say of a step, in whichever scene it is the step of this round, and no other is sent
--- anything.
+-- In every scene in which this round is the round of a step, the channels of a mask are sent what the rules say of the step, and no other
+-- channel is sent anything.
 pub record SendsRound (round : Round) (touches : List Touches) (covers : CoverTable) (origins : List Pixel) (clock : ℕ) (old new : Table) : Type 0 where
   pub changed : ℕ
   pub sends :
       (s : Scene) (e : Step)
       → IsRound s e touches round → AllHoldPointers s old → SendsAll changed (sent_in covers round s e) origins clock old new
 
--- a round is carried out: windows are sent it, pointers change hands, and the last key message is kept
+-- a round is carried out: windows are sent their messages, pointers change hands, and the last key message is kept
 pub record CarriesOut (round : Round) (place clock : ℕ) (old new : Routing) : Type 0 where
   pub touches : TakesMark round.mark place old.touches new.touches
   pub covers : CoversGo round.gift old.touches old.covers new.covers
@@ -46,13 +46,14 @@ pub record CarriesOut (round : Round) (place clock : ℕ) (old new : Routing) : 
   pub shown_is : new.shown ≡ old.shown
   pub focus_is : new.focus ≡ old.focus
 
--- a round is carried out from tables that are the same as these, but for the room that channels have
+-- a round is carried out from tables that equal these except for the room of the channels
 pub record CarriesFrom (round : Round) (place clock : ℕ) (old new : Routing) : Type 0 where
   pub mid : Table
   pub same : but_for_room mid ≡ but_for_room old.channels
   pub carries : CarriesOut round place clock (record old { channels = mid }) new
 
--- what a round is: its mark, its motion, without which it gives nothing, the key target and what that is sent, and who loses and gains the focus
+-- the parts of a round: its mark; its motion, without which it gives nothing; the key target and the keys that it is sent; who loses and gains
+-- the focus
 pub record IsOf (mark : Mark) (motion : Option Motion) (target : ℕ) (keys : List KeyMsg) (lost gained : ℕ) (r : Round) : Type 0 where
   pub mark_is : r.mark ≡ mark
   pub motion_is : option_copied r.motion ≡ motion

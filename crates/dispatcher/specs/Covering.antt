@@ -1,4 +1,4 @@
--- What is kept of what lies over windows, and what a step makes of it.
+-- What is kept of the windows that lie over others, and how a step changes it.
 use Rattle.std.specs.Prelude.{◌≡◌, ℕ, false, List, Option, Some, None}
 use Rattle.input_types.specs.declared.motion.Motion.{Motion}
 use Rattle.dispatch_calls.specs.declared.call.Call.{Call}
@@ -19,7 +19,7 @@ use Rattle.dispatcher.specs.Pointing.{mark_at}
 abbrev pub CoversAre : List Effect → CoverTable → Type 0
 CoversAre es t = Follows (marks es) t
 
--- it changes by a gift, while windows hold what these tables say, and stays where nothing is given
+-- it changes by a gift, if windows hold what these tables say, and stays if nothing is given
 abbrev pub CoversGo : Option Gift → List Touches → (old new : CoverTable) → Type 0
 CoversGo None ts old new = new ≡ old
 CoversGo (Some g) ts old new = (held : ℕ) × ((w : ℕ) → mask_has held w ≡ any_at ts w g.device) × Gives old new g held
@@ -29,16 +29,16 @@ abbrev pub GivesNone : Option Motion → Option Gift → Type 0
 GivesNone None gift = gift ≡ None
 GivesNone (Some m) gift = Unit {0}
 
--- the gift is what a mark gives; there is none where it gives nothing
+-- the gift is what a mark gives; there is none if it gives nothing
 abbrev pub IsGiftIn : Mark → Option Gift → Type 0
 IsGiftIn m None = (w d : ℕ) → has_any m.given w d ≡ false
 IsGiftIn m (Some g) = IsGift m g
 
--- so of the mark of the step with this call and reply
+-- the same for the mark of the step with this call and reply
 abbrev pub IsGiftAt : List ℕ → Call → Reply → List Effect → Option Gift → Type 0
 IsGiftAt displays call answer es = IsGiftIn (mark_at displays call answer es)
 
--- it goes one step on
+-- how a step changes it
 pub record CoversStep (displays : List ℕ) (call : Call) (answer : Reply) (es : List Effect) (ts : List Touches) (old new : CoverTable) : Type 0 where
   pub gift : Option Gift
   pub is_gift : IsGiftAt displays call answer es gift

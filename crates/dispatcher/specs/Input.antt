@@ -1,4 +1,4 @@
--- What is kept of the pointers and keys still down in a window's stream, and what a step makes of it.
+-- What is kept of the pointers and keys still down in a window's stream, and how a step changes it.
 use Rattle.std.specs.Prelude.{◌≡◌, ℕ, List}
 use Rattle.dispatcher.specs.CancelSynthesis.Tracked.{Tracked}
 use Rattle.dispatcher.specs.CancelSynthesis.Laws.{keys_sent}
@@ -13,7 +13,7 @@ pub record InputIs (displays : List ℕ) (es : List Effect) (w : ℕ) (input : T
   pub pointers_are : PointersAre displays es w input
   pub keys_are : KeysAre es w input.keys
 
--- it goes one step on: the motions and the key messages that the step sends the window are tracked
+-- how a step changes it: the motions and the key messages that the step sends the window are tracked
 pub record InputGoes (displays : List ℕ) (call : Call) (answer : Reply) (es : List Effect) (w : ℕ) (old new : Tracked) : Type 0 where
   pub pointers_are : PointersGo displays call answer es w old new
   pub keys_are : new.keys ≡ keys_sent (key_messages call answer es w) old.keys

@@ -58,8 +58,8 @@ pub record KeptStandsFor (displays : List ℕ) (es : List Effect) (k : Kept) : T
   pub rise : AllRise (past_of es)
   pub knows : Knows displays es k
 
--- What is kept goes one step on, each table by itself. The input of a window that is live after the step goes on from what stood for it
--- before: for one that the step opens that is one without pointers and keys.
+-- A step changes each table by itself. What is kept of a window that is live after the step follows from what was kept before; a window that
+-- the step opens begins without pointers and keys.
 pub record Goes (displays : List ℕ) (call : Call) (answer : Reply) (es : List Effect) (k later : Kept) : Type 0 where
   pub queue : QueueGoes call answer k.queue later.queue
   pub shown : ShownGoes call k.shown later.shown

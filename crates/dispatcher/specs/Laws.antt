@@ -1,4 +1,4 @@
--- What is proved of what is kept: each table goes on with any step of a legal history.
+-- Proved facts about what is kept: each table follows any step of a legal history.
 use Rattle.std.specs.Prelude.{◌≡◌, ◌≤◌, ◌<◌, ◌^◌, ℕ, max, true, false, List, [], length, Option, Ok, Err}
 use Rattle.input_types.specs.declared.message.Args.{Args}
 use Rattle.input_types.specs.DeviceRule.{device_of}
@@ -39,7 +39,7 @@ use Rattle.dispatcher.specs.Staying.{Stays}
 use Rattle.dispatcher.specs.DispatchRound.Bodies.{TracksAll}
 use Rattle.dispatcher.specs.Tracking.{bodies_at}
 
--- The clock, the queue and what is down go on with any step.
+-- The clock, the queue and what is down follow any step.
 abbrev pub QueueLaw : Type 0
 QueueLaw =
     (displays : List ℕ) (call : Call) (answer : Reply) (es : List Effect) (k later : Queue)
@@ -68,7 +68,7 @@ CoversLaw =
 abbrev pub TouchesSceneLaw : Type 0
 TouchesSceneLaw = (displays : List ℕ) (es : List Effect) (ts : List Touches) → TouchesAre es ts → Stands (scene displays es) ts
 
--- So do the pointers of a window that was sent them, and is live after the step.
+-- What is kept of the pointers of a window that is live after a step follows the step.
 abbrev pub PointersLaw : Type 0
 PointersLaw =
     (displays : List ℕ) (call : Call) (answer : Reply) (es : List Effect) (w : ℕ) (old new : Tracked)
@@ -78,14 +78,14 @@ PointersLaw =
     → PointersAre displays es w old → PointersGo displays call answer es w old new
     → PointersAre displays (step displays call answer es) w new
 
--- A window that is not live holds nothing: nothing was sent to one that is opened.
+-- If no pointers are kept of a window that is not live, that is right: it holds none.
 abbrev pub PointersFirst : Type 0
 PointersFirst =
     (displays : List ℕ) (es : List Effect) (w : ℕ) (input : Tracked)
     → Lawful displays es → live (past_of es) w ≡ false → ((d : ℕ) → pointers_of input d ≡ [])
     → PointersAre displays es w input
 
--- So does everything that is kept of the pointers and keys still down in a window's stream.
+-- What is kept of the pointers and keys still down in the stream of such a window follows the step too.
 abbrev pub InputLaw : Type 0
 InputLaw =
     (displays : List ℕ) (call : Call) (answer : Reply) (es : List Effect) (w : ℕ) (old new : Tracked)
@@ -102,7 +102,7 @@ InputFirst =
     → Lawful displays es → live (past_of es) w ≡ false → ((d : ℕ) → pointers_of input d ≡ []) → input.keys ≡ []
     → InputIs displays es w input
 
--- A step that sends a window nothing leaves it as it is.
+-- A step that sends a window nothing leaves what is kept of it.
 abbrev pub InputQuiet : Type 0
 InputQuiet =
     (displays : List ℕ) (call : Call) (answer : Reply) (es : List Effect) (w : ℕ) (input : Tracked)
@@ -121,7 +121,7 @@ KeyingQuiet =
     → KeyingIs es focus repeat
     → KeyingIs (step displays call answer es) focus repeat
 
--- What stands for a history stands for it with one step more, once each table has gone on.
+-- Tables that stand for a history stand for it with one more step, once each has followed the step.
 abbrev pub GoesLaw : Type 0
 GoesLaw =
     (displays : List ℕ) (call : Call) (answer : Reply) (es : List Effect) (k later : Kept)
@@ -135,7 +135,7 @@ TakenLaw =
     → QueueIs es k → 1 ≤ device_of args → device_of args ≤ 8 → PlansAt k.down args (Ok c)
     → reply_to es (Notify now args) ≡ Taken
 
--- Args that may not come are refused with what is down instead.
+-- Args that may not come are refused, and the reply says what is down.
 abbrev pub RefusedLaw : Type 0
 RefusedLaw =
     (es : List Effect) (k : Queue) (now : ℕ) (args : Args) (e : Refusal)
@@ -146,7 +146,7 @@ RefusedLaw =
 abbrev pub KnowsFirst : Type 0
 KnowsFirst = (displays : List ℕ) (k : Kept) → IsFirst k → KeptStandsFor displays [] k
 
--- What a step sends a window, in display pixels and tracked body by body, is what it makes of what the window was sent.
+-- What is kept of a window follows a step if each body that the step sends it, in display pixels, is tracked.
 abbrev pub TracksAllLaw : Type 0
 TracksAllLaw =
     (displays : List ℕ) (call : Call) (answer : Reply) (es : List Effect) (w : ℕ) (old new : Tracked)
@@ -156,11 +156,11 @@ TracksAllLaw =
 abbrev pub ListedLaw : Type 0
 ListedLaw = (displays : List ℕ) (es : List Effect) (d : ℕ) → Lawful displays es → AllRise (past_of es) → IsListed (scene displays es) d
 
--- Each call is answered by what is kept.
+-- The reply to each call follows from what is kept.
 abbrev pub ReplyLaw : Type 0
 ReplyLaw = (displays : List ℕ) (es : List Effect) (k : Kept) (call : Call) → KeptStandsFor displays es k → IsOfDevice call → MayHand es k call → reply_to es call ≡ reply_by k call
 
--- A tick is answered with the mask of the channels that are due at the clock that it makes.
+-- A tick is answered with the mask of the channels that are due at the clock after it.
 abbrev pub TickReplyLaw : Type 0
 TickReplyLaw =
     (displays : List ℕ) (es : List Effect) (k : Kept) (now mask : ℕ)
@@ -169,8 +169,7 @@ TickReplyLaw =
     → ((c : ℕ) → mask_has mask c ≡ is_due (due_kept k.delivery c) (max now k.queue.clock))
     → reply_to es (Tick now) ≡ Named mask
 
--- A step that leaves all channels as they are, and is said so in the queue and in the tables of touches, has what stands for the history
--- with it.
+-- After a step that is a no-op, tables in which only the queue has followed it stand for the history with that step added.
 abbrev pub NoOpLaw : Type 0
 NoOpLaw =
     (displays : List ℕ) (call : Call) (answer : Reply) (es : List Effect) (k later : Kept)
@@ -178,7 +177,7 @@ NoOpLaw =
     → is_no_op call answer ≡ true → Stays call answer k later
     → KeptStandsFor displays (step displays call answer es) later
 
--- A tick that names nobody leaves all as it is, too.
+-- The same holds after a tick that reports nobody.
 abbrev pub TickIdleLaw : Type 0
 TickIdleLaw =
     (displays : List ℕ) (now : ℕ) (es : List Effect) (k later : Kept)

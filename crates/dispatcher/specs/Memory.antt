@@ -14,7 +14,7 @@ pub record SameFocus (before after : History) : Type 0 where
   pub focus_is : (w : ℕ) → has_focus after w ≡ has_focus before w
   pub target_is : key_target after ≡ key_target before
 
--- Owners that receive or finish, a removal, a request that changes neither who has the focus nor where keys go, a tick that names
+-- Owners that receive or finish, a removal, a request that changes neither who has the focus nor where keys go, a tick that reports
 -- nobody and a pump that is idle need no memory.
 abbrev pub IsCalm : List Effect → Call → Type 0
 IsCalm es (Receive channel) = Unit {0}

@@ -1,4 +1,4 @@
--- What opening a channel makes of the tables.
+-- How opening a channel changes the tables.
 use Rattle.std.specs.Prelude.{◌≡◌, ◌≤◌, ℕ, [], None, bit_and}
 use Rattle.window_snapshot.specs.Mask.{mask_with}
 use Rattle.focus_resolver.specs.Resolver.{FocusState, focus_of, is_focused}
@@ -18,7 +18,7 @@ pub record IsWelcome (number : ℕ) (t : Table) : Type 0 where
   pub track_room : 1 ≤ (input_of t number).spare
   pub pointers_are : (d : ℕ) → pointers_of (input_of t number) d ≡ []
 
--- the focus is found anew, and the round is carried out in which a channel is sent that it has it, where it gains it
+-- the focus is computed anew, and a round sends the channel the focus if it gains it
 pub record Welcomes (number place clock : ℕ) (old new : Routing) : Type 0 where
   pub round : Round
   pub gained : ℕ

@@ -1,4 +1,4 @@
--- The results of calls that hand out no message.
+-- The results of calls whose reply has no message.
 use Rattle.std.specs.Prelude.{Result, Ok, Err}
 use Rattle.std.specs.declared.alloc.AllocError.{AllocError}
 use Rattle.dispatch_calls.specs.declared.reply.Reply.{Reply}
@@ -15,7 +15,7 @@ reply_of Outcome.Gone = Reply.Gone
 reply_of Outcome.Done = Reply.Done
 reply_of Outcome.UnknownSeq = Reply.UnknownSeq
 
--- the same where memory may have run out
+-- the same if memory may have run out
 abbrev pub replied : Result Outcome AllocError → Result Reply AllocError
 replied (Ok outcome) = Ok (reply_of outcome)
 replied (Err error) = Err error

@@ -1,4 +1,4 @@
--- What is proved of what the owners of channels do.
+-- Proved facts about the calls of the owners of channels.
 use Rattle.std.specs.Prelude.{◌≡◌, ℕ, List}
 use Rattle.input_types.specs.declared.message.Message.{Message}
 use Rattle.dispatcher.specs.InputChannel.State.{received_one}
@@ -12,7 +12,7 @@ use Rattle.dispatcher.specs.DispatchChannels.Changes.{finished_in}
 use Rattle.dispatcher.specs.Knows.{Kept, KeptStandsFor}
 use Rattle.dispatcher.specs.Staying.{StaysBut, delivery_of}
 
--- The owner of a channel gets its next message, which is received.
+-- The owner of a channel receives its next message.
 abbrev pub GotLaw : Type 0
 GotLaw =
     (displays : List ℕ) (c : ℕ) (m : Message) (es : List Effect) (k later : Kept) (t u : Table)
@@ -24,7 +24,7 @@ GotLaw =
     → u ≡ with_channel c (received_one (channel_of t c)) t
     → KeptStandsFor displays (step displays (Receive c) (Got m) es) later
 
--- The owner of a channel is done with a message, which is finished at the clock after the step.
+-- The owner of a channel finishes a message, at the clock after the step.
 abbrev pub DoneLaw : Type 0
 DoneLaw =
     (displays : List ℕ) (now c seq : ℕ) (es : List Effect) (k later : Kept) (t u : Table)

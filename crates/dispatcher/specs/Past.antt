@@ -29,7 +29,7 @@ moved_last es device clock r c =
       body = moves_from (origin (past_of es) c) device (flags_of (cover_in r.covers c device)) (pointers_of (input_of r.channels c) device);
     }
 
--- a channel that a mask has was sent one message more, which is released
+-- each channel of a mask was sent one more message, which is released
 abbrev pub ReleasesSent : (sent : ℕ) → (old new : Table) → Type 0
 ReleasesSent sent old new =
     (c : ℕ) → 1 ≤ c → (channel_of new c).gone ≡ (if mask_has sent c then (channel_of old c).gone + 1 else (channel_of old c).gone)
@@ -40,7 +40,7 @@ Streams es later device sent clock r =
     (c : ℕ) → 1 ≤ c
     → stream later c ≡ (if mask_has sent c then moved_last es device clock r c ∷ stream es c else stream es c)
 
--- A Move that is the first that waits is dispatched: as in a pump, but its messages are released at once.
+-- A Move that waits first is dispatched as by a pump, but its messages are released at once.
 pub record PumpsPast (m : Motion) (sent place clock : ℕ) (old new : Routing) : Type 0 where
   pub after :
       (es : List Effect) (now : ℕ) (queue later : Queue)

@@ -1,4 +1,4 @@
--- What is kept of who holds which pointers, and what a step makes of it.
+-- What is kept of who holds which pointers, and how a step changes it.
 use Rattle.std.specs.Prelude.{◌≡◌, ◌≤◌, ℕ, List}
 use Rattle.dispatch_calls.specs.declared.call.Call.{Call}
 use Rattle.dispatch_calls.specs.declared.reply.Reply.{Reply}
@@ -19,7 +19,7 @@ use Rattle.route_split.specs.Tables.{ChangesAll}
 use Rattle.route_split.specs.Marking.{gives, taking, IsMark}
 use Rattle.route_split.specs.Following.{Follows}
 
--- what the step with this call and reply is to the rules
+-- the step of this call and reply, as the rules see it
 abbrev pub step_at : Call → Reply → List Effect → Step
 step_at call answer es = step_of (snapshot (past_of es)) call answer (args_of call answer (inbound (past_of es)))
 
@@ -31,7 +31,7 @@ mark_at displays call answer es = mark (scene displays es) (step_at call answer 
 abbrev pub TouchesAre : List Effect → List Touches → Type 0
 TouchesAre es ts = Follows (marks es) ts
 
--- the tables go one step on: they change by the mark of the step, at its place
+-- how a step changes the tables: by its mark, at its index
 pub record TouchesGo (displays : List ℕ) (call : Call) (answer : Reply) (es : List Effect) (place : ℕ) (old new : List Touches) : Type 0 where
   pub by : Mark
   pub is_mark : IsMark old by (mark_at displays call answer es)
@@ -41,7 +41,7 @@ pub record TouchesGo (displays : List ℕ) (call : Call) (answer : Reply) (es : 
 abbrev pub PointersAre : List ℕ → List Effect → ℕ → Tracked → Type 0
 PointersAre displays es w input = (d : ℕ) → 1 ≤ d → d ≤ 8 → pointers_of input d ≡ listing ((scene displays es).holds w d) (last es d)
 
--- what a window was sent goes one step on in its pointers: what the step sends it for each device is tracked
+-- how a step changes what is kept of the pointers of a window: what the step sends it for each device is tracked
 abbrev pub PointersGo : List ℕ → Call → Reply → List Effect → ℕ → (old new : Tracked) → Type 0
 PointersGo displays call answer es w old new =
     (d : ℕ) → 1 ≤ d → d ≤ 8

@@ -1,4 +1,4 @@
--- What is kept of the clock, of args that wait and of what is down, and what a step makes of it.
+-- What is kept of the clock, of args that wait and of what is down, and how a step changes it.
 use Rattle.std.specs.Prelude.{◌≡◌, ℕ, ◌-◌, suc, max, List, [], ◌∷◌, ◌++◌, drop, length, Ok}
 use Rattle.input_types.specs.declared.message.Args.{Args}
 use Rattle.dispatcher.specs.declared.inbound.change.Change.{Change}
@@ -30,25 +30,25 @@ pub record QueueIs (es : List Effect) (k : Queue) : Type 0 where
   pub waiting_is : k.waiting ≡ inbound (past_of es)
   pub down_is : DevicesStandFor (accepted (past_of es)) k.down
 
--- what waits after a step: args that are taken stand behind the others, and a pump that dispatches takes the first ones
+-- what waits after a step: accepted args stand after the others, and a pump that dispatches removes the first
 abbrev pub waiting_after : Call → Reply → List Args → List Args
 waiting_after (Notify now args) Taken waiting = waiting ++ args ∷ []
 waiting_after (Pump now) Dispatched waiting = drop 1 waiting
 waiting_after call answer waiting = waiting
 
--- what is down after a step: args that are taken change it as is planned for them
+-- what is down after a step: accepted args change it as planned for them
 abbrev pub DownGoes : Call → Reply → (old new : List DownSets) → Type 0
 DownGoes (Notify now args) Taken old new = (c : Change) × PlansAt old args (Ok c) × Changes c old new
 DownGoes call answer old new = new ≡ old
 
--- what is kept goes one step on
+-- how a step changes it
 pub record QueueGoes (call : Call) (answer : Reply) (k later : Queue) : Type 0 where
   pub clock_is : later.clock ≡ max (moment_of call) k.clock
   pub place_is : later.place ≡ suc k.place
   pub waiting_is : later.waiting ≡ waiting_after call answer k.waiting
   pub down_is : DownGoes call answer k.down later.down
 
--- two steps go by, with which args are taken and dispatched at once: what is down changes as is planned for them, and nothing is queued
+-- two steps accept args and dispatch them at once: what is down changes as planned for them, and nothing is queued
 pub record Passes (now : ℕ) (change : Change) (k later : Queue) : Type 0 where
   pub changes : Changes change k.down later.down
   pub is : later ≡ record k { clock = max now k.clock; place = suc (suc k.place); pumps = k.pumps - 1; down = later.down }

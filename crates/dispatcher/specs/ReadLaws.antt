@@ -1,4 +1,4 @@
--- What is read of what is kept: it is what the history says.
+-- What is read from the tables is what the history says.
 use Rattle.std.specs.Prelude.{◌≡◌, ◌≤◌, ℕ, true, List, drop, length, reverse, option_map, Option}
 use Rattle.input_types.specs.Displays.{device_display}
 use Rattle.window_snapshot.specs.Mask.{mask_has}
@@ -26,7 +26,7 @@ use Rattle.dispatcher.specs.DispatchChannels.Changes.{counts_in}
 use Rattle.dispatcher.specs.Knows.{Kept, KeptStandsFor, due_again}
 use Rattle.dispatcher.specs.Staying.{delivery_of}
 
--- all that is kept but for the channels is the same
+-- everything that is kept is the same except the channels
 pub record SameBut (k later : Kept) : Type 0 where
   pub queue_is : later.queue ≡ k.queue
   pub shown_is : later.shown ≡ k.shown
@@ -35,7 +35,7 @@ pub record SameBut (k later : Kept) : Type 0 where
   pub focus_is : later.focus ≡ k.focus
   pub repeat_is : later.repeat ≡ k.repeat
 
--- Channels that differ in their room alone stand for the same history.
+-- Tables whose channels differ only in their room stand for the same history.
 abbrev pub RoomLaw : Type 0
 RoomLaw =
     (displays : List ℕ) (es : List Effect) (k later : Kept) (t u : Table)
@@ -48,7 +48,7 @@ RoomLaw =
     → but_for_room u ≡ but_for_room t
     → KeptStandsFor displays es later
 
--- So do those of which messages of a channel are released that may be, and what is left of it is the rest of its stream.
+-- So do tables in which a channel has released some of its messages; it keeps the rest of its stream.
 abbrev pub ReleaseLaw : Type 0
 ReleaseLaw =
     (displays : List ℕ) (es : List Effect) (k later : Kept) (t u : Table) (c : ℕ) (s : ChannelState)
@@ -63,7 +63,7 @@ ReleaseLaw =
     → u ≡ with_channel c s t
     → KeptStandsFor displays es later × ((channel_of u c).messages ≡ drop s.gone (reverse (stream es c)))
 
--- So do channels each of which still holds what it is to hold, such as those that release all of it.
+-- So do tables in which every channel still agrees with its stream, for example after all have released their messages.
 abbrev pub EachGoLaw : Type 0
 EachGoLaw =
     (displays : List ℕ) (es : List Effect) (k later : Kept) (t u : Table)
@@ -79,7 +79,7 @@ EachGoLaw =
     → ((c : ℕ) → 1 ≤ c → c ≤ opened t → Holds es c (channel_of t c) → Holds es c (channel_of u c))
     → KeptStandsFor displays es later
 
--- So do those of which the ANRs are released.
+-- So do tables whose ANRs are released.
 abbrev pub AnrsGoLaw : Type 0
 AnrsGoLaw =
     (displays : List ℕ) (es : List Effect) (k later : Kept) (t u : Table)

@@ -1,4 +1,4 @@
--- What each call is answered, by what is kept.
+-- The reply to each call, computed from what is kept.
 use Rattle.std.specs.Prelude.{◌≡◌, ◌≤◌, ℕ, max, true, not, ◌==◌, ◌&&◌, List, filter, if◌then◌else◌}
 use Rattle.std.specs.List.{list_any}
 use Rattle.input_types.specs.DeviceRule.{device_of}
@@ -23,7 +23,7 @@ use Rattle.dispatcher.specs.Knows.{Kept, due_again}
 abbrev pub late_by : Delivery → ℕ → List ℕ
 late_by k at = filter (λ c. is_due (due_kept k c) at) (channels k.count)
 
--- where the owner of a live channel is to be handed its next message, that one was not released; of any other call nothing is asked
+-- a message that the owner of a live channel is about to receive was not released; other calls require nothing
 abbrev pub MayHand : List Effect → Kept → Call → Type 0
 MayHand es k (Receive c) = live (past_of es) c ≡ true → (k.delivery.channel c).gone ≤ received (past_of es) c
 MayHand es k call = Unit {0}

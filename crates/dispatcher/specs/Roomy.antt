@@ -22,21 +22,22 @@ pub record HasRoomFor (n list : ℕ) (s : ChannelState) (i : Tracked) : Type 0 w
   pub small : 131 * n + length i.keys < 2 ^ 31
   pub list_room : length i.keys + n ≤ list
 
--- and so for each live channel
+-- each live channel has that room
 abbrev pub IsRoomy : (n list : ℕ) → Table → Type 0
 IsRoomy n list t = (c : ℕ) → mask_has t.live c ≡ true → HasRoomFor n list (channel_of t c) (input_of t c)
 
--- Key messages leave a window that holds these keys one more at most, and with each message but two one less.
+-- After n key messages a window holds at most one key more than before, and at most 2 - n more.
 pub record IsModest (keys held : List KeyMsg) : Type 0 where
   pub with_them : length (bodies_tracked (map Key keys) held) + length keys ≤ length held + 2
   pub one_more : length (bodies_tracked (map Key keys) held) ≤ length held + 1
 
--- and so what the key target is sent leaves each live window
+-- in each live window this holds of the key messages that the key target is sent
 pub record AreModest (target : ℕ) (keys : List KeyMsg) (t : Table) : Type 0 where
   pub few : length keys < 2 ^ 31
   pub each : (w : ℕ) → mask_has t.live w ≡ true → IsModest (keys_to target keys w) (input_of t w).keys
 
--- Those of a mask that are sent a round spend no more than the most that they may be sent; the others are left, and so is who is live.
+-- The channels of a mask, which are sent a round, use no more room than the most that it may send them. The others stay as they are, and the
+-- same channels are live.
 pub record TakesRoom (outgoing : ℕ) (r : Round) (old new : Table) : Type 0 where
   pub spends : (w : ℕ) → mask_has outgoing w ≡ true → Spends r w old new
   pub left : (w : ℕ) → 1 ≤ w → mask_has outgoing w ≡ false → IsLeft old new w
@@ -46,6 +47,6 @@ pub record TakesRoom (outgoing : ℕ) (r : Round) (old new : Table) : Type 0 whe
 abbrev pub HasPumpRoom : (n : ℕ) → Routing → Type 0
 HasPumpRoom n r = IsRoomy n r.cancelled r.channels
 
--- where room for pumps is promised, there is room
+-- if room for pumps is promised, it is there
 abbrev pub KeepsPromise : Tables → Type 0
 KeepsPromise t = 1 ≤ t.queueing.pumps → HasPumpRoom t.queueing.pumps t.routing

@@ -1,4 +1,4 @@
--- What is proved of steps that send windows something: what a round sends is what the step sends.
+-- Proved facts about steps that send something: a round sends what its step sends.
 use Rattle.std.specs.Prelude.{◌≡◌, [], bit_and, false, ◌≤◌, ℕ, Bool, true, ◌&&◌, List, map, slice_get, Option, Some, None}
 use Rattle.std.specs.Option.{option_copied}
 use Rattle.input_types.specs.declared.key.KeyArgs.{KeyArgs}
@@ -46,15 +46,15 @@ use Rattle.dispatcher.specs.Sending.{parted_in, is_sending, sent_target, AreKeys
 use Rattle.dispatcher.specs.Tracking.{bodies_at}
 use Rattle.dispatch_calls.specs.declared.terms.Terms.{Terms}
 
--- What a step says to a window that is live after it is what it sends it, with the places counted from the origin of the window.
+-- A window that is live after a step is sent the bodies of the step, with positions relative to the origin of the window.
 abbrev pub SaidLaw : Type 0
 SaidLaw =
     (displays : List ℕ) (call : Call) (answer : Reply) (es : List Effect) (w : ℕ)
     → live (past_of (step displays call answer es)) w ≡ true
     → said_at displays call answer es w ≡ map (body_from (origin (past_of es) w)) (bodies_at displays call answer es w)
 
--- What is kept and goes one step on by a round, which is that of the step, stands for the history with it. The channels may have been given
--- room before.
+-- Tables that a round of a step changed stand for the history with that step added. Channels may have been given room before
+-- the round.
 abbrev pub RoundLaw : Type 0
 RoundLaw =
     (displays : List ℕ) (call : Call) (answer : Reply) (es : List Effect) (k later : Kept) (r : Round) (first t u : Table) (changed : ℕ)
@@ -76,7 +76,7 @@ RoundLaw =
     → later.inputs ≡ input_of u
     → KeptStandsFor displays (step displays call answer es) later
 
--- A round lets no messages go.
+-- A round releases no message.
 abbrev pub GoneLaw : Type 0
 GoneLaw =
     (changed : ℕ) (outgoing : ℕ → List Body) (origins : List Pixel) (clock : ℕ) (old new : Table)
@@ -85,7 +85,7 @@ GoneLaw =
     → 1 ≤ c
     → (channel_of new c).gone ≡ (channel_of old c).gone
 
--- The same of a step that opens a channel.
+-- The same for a step that opens a channel.
 abbrev pub OpenLaw : Type 0
 OpenLaw =
     (displays : List ℕ) (terms : Terms) (number : ℕ) (es : List Effect) (k later : Kept) (r : Round) (t p u : Table) (changed : ℕ)
@@ -103,13 +103,13 @@ OpenLaw =
     → later.inputs ≡ input_of u
     → KeptStandsFor displays (step displays (Open terms) (Opened number) es) later
 
--- The table of channels opens one so.
+-- The table of channels opens a channel in this way.
 abbrev pub OpensLaw : Type 0
 OpensLaw =
     (terms : Terms) (number : ℕ) (old new : Table)
     → OpensChannel terms number old new → OpensWith terms number old new
 
--- Where a channel is opened it alone can gain the focus, and nobody loses it.
+-- If a channel is opened, only that channel can gain the focus, and none loses it.
 abbrev pub OpenFocusLaw : Type 0
 OpenFocusLaw =
     (displays : List ℕ) (es : List Effect) (k : Kept) (later : FocusState) (number gained : ℕ)
@@ -119,7 +119,7 @@ OpenFocusLaw =
     → IsOnlyIn gained (is_focused (focus_of later)) (is_focused (focus_of k.focus))
     → SendsFocus 0 (bit_and gained (mask_with 0 number)) (mask_with k.delivery.live number) k.focus later
 
--- The key target stays, and is sent nothing of keys.
+-- A step that opens a channel leaves the key target, and sends it no key message.
 abbrev pub OpenKeysLaw : Type 0
 OpenKeysLaw =
     (displays : List ℕ) (es : List Effect) (k : Kept) (later : FocusState) (terms : Terms) (number channel : ℕ)
@@ -134,7 +134,7 @@ TargetLiveLaw =
     (displays : List ℕ) (es : List Effect) (k : Kept) (t : ℕ)
     → KeptStandsFor displays es k → target_of k.focus ≡ Some t → mask_has k.delivery.live t ≡ true
 
--- The same of a step that removes a channel: nobody is sent anything.
+-- The same for a step that removes a channel, which sends nobody anything.
 abbrev pub RemoveLaw : Type 0
 RemoveLaw =
     (displays : List ℕ) (now channel : ℕ) (es : List Effect) (k later : Kept) (t : Table)
@@ -149,8 +149,8 @@ RemoveLaw =
 abbrev pub reach_on : (channels display : ℕ) → Reach
 reach_on channels display = record { channels = channels; display = display }
 
--- The scene of a history has the windows that are kept, those that a device can reach, where the mask has the live channels that are
--- shown on its display, and the channels that are able to take input.
+-- The scene of a history has the kept windows, the channels that are able to take input, and as reach of a device the live channels
+-- that are shown on its display.
 abbrev pub SeesLaw : Type 0
 SeesLaw =
     (displays : List ℕ) (es : List Effect) (k : Kept) (device reach : ℕ)
@@ -158,7 +158,7 @@ SeesLaw =
     → ((c : ℕ) → mask_has reach c ≡ (mask_has k.delivery.live c && is_shown_on k.shown.windows (device_display displays device) c))
     → Sees (scene displays es) k.shown.windows (reach_on reach (device_display displays device)) k.delivery.able device
 
--- A motion that waits first is the step of a pump, by the mark that the tables of touches find for it and the windows that watch.
+-- If a motion waits first, a pump is the step of this motion, with the mark that the tables of touches find and the windows that watch.
 abbrev pub MotionStepLaw : Type 0
 MotionStepLaw =
     (displays : List ℕ) (now : ℕ) (es : List Effect) (k : Kept) (m : Motion) (by : Mark) (watchers reach : ℕ)
@@ -172,7 +172,7 @@ MotionStepLaw =
     → mask_has watchers w ≡ is_watching s m (changed m) w)
     → IsStepIn (scene displays es) k.touches by (Some m) watchers (step_at (Pump now) Dispatched es)
 
--- what each other step is, by its mark
+-- the step of each other call, by its mark
 pub record OtherSteps (displays : List ℕ) (es : List Effect) (k : Kept) : Type 0 where
   pub resets :
       (now d watchers : ℕ) → slice_get k.queue.waiting 0 ≡ Some (Reset d)
@@ -196,11 +196,11 @@ pub record OtherSteps (displays : List ℕ) (es : List Effect) (k : Kept) : Type
   pub removes :
       (now c watchers : ℕ) → IsStepIn (scene displays es) k.touches (Forget c) None watchers (step_at (Remove now c) Done es)
 
--- Each other step is that of a mark which code can say.
+-- Each other step has a mark that the code can express.
 abbrev pub OtherStepsLaw : Type 0
 OtherStepsLaw = (displays : List ℕ) (es : List Effect) (k : Kept) → KeptStandsFor displays es k → OtherSteps displays es k
 
--- No message was delivered after a clock that is not before the one that is kept.
+-- No unfinished message was delivered after the kept clock, or after any later one.
 abbrev pub TimelyLaw : Type 0
 TimelyLaw =
     (displays : List ℕ) (es : List Effect) (k : Kept) (c clock : ℕ)
@@ -210,6 +210,6 @@ TimelyLaw =
     → c ≤ k.delivery.count
     → NoneAfter clock (k.delivery.channel c).unfinished
 
--- Where the focus stays as it is nobody loses or gains it.
+-- If the focus does not change, no channel loses or gains it.
 abbrev pub SameFocusLaw : Type 0
 SameFocusLaw = (focused : ℕ → Bool) → IsOnlyIn 0 focused focused

@@ -1,4 +1,4 @@
--- Steps that send windows something, by what is kept.
+-- Steps that send something, in terms of what is kept.
 use Rattle.std.specs.Prelude.{◌≡◌, ◌≤◌, ◌<◌, ◌+◌, ℕ, suc, Bool, true, false, not, ◌&&◌, List, [], slice_set, Option, Some, None, if◌then◌else◌}
 use Rattle.input_types.specs.declared.key.KeyMsg.{KeyMsg}
 use Rattle.window_snapshot.specs.declared.window.Window.{Window}
@@ -29,13 +29,13 @@ use Rattle.dispatcher.specs.Knows.{Kept}
 use Rattle.dispatcher.specs.Staying.{delivery_of}
 use Rattle.dispatch_calls.specs.declared.terms.Terms.{Terms}
 
--- the channels before anyone is sent anything: one is removed, some are named, at this clock, or all stay
+-- the channels before anything is sent: one is removed, some are reported unresponsive at this clock, or all stay
 abbrev pub parted_in : Call → Reply → (clock : ℕ) → Table → Table
 parted_in (Remove now c) Done clock t = removed_in c t
 parted_in (Tick now) (Named mask) clock t = named_in mask clock t
 parted_in call answer clock t = t
 
--- the focus is found anew: the channels that may have it are the live ones that the windows name with one that may have it
+-- the focus is computed anew: a channel may have the focus of a display if it is live and has a window there that can take the focus
 abbrev pub Refocuses : List Window → (alive : ℕ) → (old new : FocusState) → Type 0
 Refocuses windows alive old new =
     (masks : List ℕ)
@@ -51,13 +51,13 @@ FocusGoes (Windows now shown) windows alive old new = Refocuses windows alive ol
 FocusGoes (Remove now c) windows alive old new = Refocuses windows alive old new
 FocusGoes call windows alive old new = new ≡ old
 
--- what the key target is sent for keys at a step with this call and reply, after which the focus is this
+-- the key messages that the key target is sent at a step with this call and reply, which leads to this focus
 abbrev pub sent_target : Call → Reply → Kept → FocusState → (target : ℕ) → List KeyMsg
 sent_target call answer k later t =
     target_sent call answer (args_of call answer k.queue.waiting) t (mask_has k.delivery.able t) (is_at (target_of later) t)
     (k.inputs t).keys k.repeat
 
--- the key target, where there is one that is live after the step, is sent these keys; else there are none to be sent
+-- these keys are those that the key target is sent, if it is live after the step; without a key target there are none
 abbrev pub AreKeys : (target : Option ℕ) → (alive : ℕ) → (outgoing : ℕ → List KeyMsg) → (channel : ℕ) → List KeyMsg → Type 0
 AreKeys None alive outgoing channel keys = keys ≡ []
 AreKeys (Some t) alive outgoing channel keys = (channel ≡ t) × (mask_has alive t ≡ true → keys ≡ outgoing t)
@@ -74,8 +74,9 @@ SendsFocus lost gained alive old new =
     → (mask_has lost w ≡ (is_focused (focus_of old) w && not (is_focused (focus_of new) w)))
     × (mask_has gained w ≡ (is_focused (focus_of new) w && not (is_focused (focus_of old) w)))
 
--- What is kept goes one step on in all but the channels: queue, windows, touches by the mark of a round, what lies over windows by its gift, the focus, whose change the round
--- sends, and the last key message, which the round sends the key target. So many channels are live after it.
+-- A round changes everything that is kept except the channels: the queue, the windows, the touches by its mark, what lies over windows by
+-- its gift, the focus, whose change it sends, and the last key message, if it sends the key target one. `alive` is the mask of the channels
+-- that are live afterwards.
 pub record GoesRound (call : Call) (answer : Reply) (r : Round) (alive : ℕ) (k later : Kept) : Type 0 where
   pub queue : QueueGoes call answer k.queue later.queue
   pub shown : ShownGoes call k.shown later.shown
@@ -86,7 +87,7 @@ pub record GoesRound (call : Call) (answer : Reply) (r : Round) (alive : ℕ) (k
   pub keys : AreKeys (target_of k.focus) alive (sent_target call answer k later.focus) r.target r.keys.now
   pub repeat_is : later.repeat ≡ repeat_then (target_of k.focus) alive later.queue.clock r.keys.now k.repeat
 
--- Steps that may send windows something, but for those that open a channel.
+-- the steps that may send something, except those that open a channel
 abbrev pub is_sending : Call → Reply → Bool
 is_sending (Windows now shown) Done = true
 is_sending (FocusOn now display channel) Done = true
@@ -97,7 +98,7 @@ is_sending (Pilfer now channel device) Done = true
 is_sending (Remove now channel) Done = true
 is_sending call answer = false
 
--- A channel with the next number is opened on terms, and with room for some messages. Nothing is kept of it, and it is live and able.
+-- A channel with the next number is opened on these terms, with room for some messages. Its window holds nothing, and it is live and able.
 pub record OpensWith (terms : Terms) (number : ℕ) (old new : Table) : Type 0 where
   pub room : ℕ
   pub number_is : number ≡ opened old + 1
@@ -111,8 +112,8 @@ pub record OpensWith (terms : Terms) (number : ℕ) (old new : Table) : Type 0 w
   pub able_is : new.able ≡ mask_with old.able number
   pub anrs_are : new.anrs ≡ old.anrs
 
--- What is kept goes one step on with which a channel is removed, and nobody is sent anything: the channel is not live any more, holds nothing,
--- and has no focus, and where it was the key target no key is to be repeated.
+-- A step removes a channel and sends nobody anything. The channel is no longer live, and its window holds nothing and has no focus. If it was
+-- the key target, no key is repeated any more.
 pub record GoesRemoved (now channel : ℕ) (t : Table) (k later : Kept) : Type 0 where
   pub queue : QueueGoes (Remove now channel) Done k.queue later.queue
   pub shown_is : later.shown ≡ k.shown

@@ -1,4 +1,4 @@
--- What is kept of the windows that are shown, and what a step makes of it.
+-- What is kept of the windows that are shown, and how a step changes it.
 use Rattle.std.specs.Prelude.{◌≡◌, ◌≤◌, ℕ, List}
 use Rattle.input_types.specs.declared.axis.Pixel.{Pixel}
 use Rattle.window_snapshot.specs.declared.window.Window.{Window}
@@ -17,7 +17,7 @@ pub record ShownIs (es : List Effect) (k : Shown) : Type 0 where
   pub windows_are : k.windows ≡ snapshot (past_of es)
   pub origins_are : (w : ℕ) → 1 ≤ w → w ≤ 64 → origin_at k.origins w ≡ origin (past_of es) w
 
--- what is kept goes one step on: a snapshot that names a window says its origin
+-- how a step changes it: a snapshot that lists a window gives its origin
 pub record ShownGoes (call : Call) (k later : Shown) : Type 0 where
   pub windows_are : later.windows ≡ windows_after call k.windows
   pub origins_are : (w : ℕ) → 1 ≤ w → w ≤ 64 → origin_at later.origins w ≡ origin_after call w (origin_at k.origins w)

@@ -11,7 +11,8 @@ use Rattle.dispatcher.specs.Knows.{Kept}
 abbrev pub delivery_of : Table → Delivery
 delivery_of t = record { count = opened t; channel = channel_of t; live = t.live; able = t.able; noted = t.anrs }
 
--- The queue goes on. Neither windows nor who holds what nor what lies over windows nor the focus nor the last key message change, nor anything that a window was sent.
+-- The step changes the queue, and perhaps the channels. The windows, who holds what, what lies over windows, the focus, the last key message,
+-- and what is still down in the stream of each window stay.
 pub record StaysBut (call : Call) (answer : Reply) (k later : Kept) : Type 0 where
   pub queue : QueueGoes call answer k.queue later.queue
   pub shown_is : later.shown ≡ k.shown
@@ -21,7 +22,7 @@ pub record StaysBut (call : Call) (answer : Reply) (k later : Kept) : Type 0 whe
   pub focus_is : later.focus ≡ k.focus
   pub repeat_is : later.repeat ≡ k.repeat
 
--- nor do the channels
+-- the channels stay too
 pub record Stays (call : Call) (answer : Reply) (k later : Kept) : Type 0 where
   pub but : StaysBut call answer k later
   pub delivery_is : later.delivery ≡ k.delivery

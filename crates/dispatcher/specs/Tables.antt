@@ -33,13 +33,13 @@ due_repeat r = due_by (repeats_kept (delivery_of r.channels)) r.repeat
 abbrev pub TablesStandFor : List Effect → Tables → Type 0
 TablesStandFor es t = KeptStandsFor t.routing.displays es (kept t.queueing t.routing)
 
--- of each channel as many messages were released as before, and as many ANRs
+-- no message of any channel is released, and no ANR
 pub record ReleasesNone (old new : Table) : Type 0 where
   pub of_channels : (c : ℕ) → 1 ≤ c → (channel_of new c).gone ≡ (channel_of old c).gone
   pub of_anrs : new.anrs.gone ≡ old.anrs.gone
 
--- The tables of routing went one step on, with this call and answer, at this place and with this clock after it: together with the queue,
--- once that goes one step on, they stand for what they stood for, with this step more. The call is given by its moment.
+-- The routing tables made a step with this call and answer, at this index and with this clock after it. Once the queue has made the same step,
+-- queue and tables stand for the history with that step added. The call is a function of its moment.
 pub record Goes (call : ℕ → Call) (answer : Reply) (place clock : ℕ) (old new : Routing) : Type 0 where
   pub after :
       (es : List Effect) (now : ℕ) (queue later : Queue)
@@ -49,7 +49,7 @@ pub record Goes (call : ℕ → Call) (answer : Reply) (place clock : ℕ) (old 
   pub displays_are : new.displays ≡ old.displays
   pub gone_are : ReleasesNone old.channels new.channels
 
--- the same of a pump, where these args are the first ones that wait, or none wait
+-- the same for a pump, if these args are the first that wait, or if none wait
 pub record Pumps (first : Option Args) (answer : Reply) (place clock : ℕ) (old new : Routing) : Type 0 where
   pub after :
       (es : List Effect) (now : ℕ) (queue later : Queue)
@@ -59,8 +59,8 @@ pub record Pumps (first : Option Args) (answer : Reply) (place clock : ℕ) (old
   pub displays_are : new.displays ≡ old.displays
   pub gone_are : ReleasesNone old.channels new.channels
 
--- The owner of a channel has its next message, where there is one: the tables of routing went one step on with what is to be
--- answered, whether that message was released or not.
+-- The owner of a channel receives its next message, if there is one: the routing tables made a step with the required answer, whether
+-- or not that message was released.
 pub record HandsOn (channel : ℕ) (old new : Routing) : Type 0 where
   pub after :
       (es : List Effect) (answer : Reply) (queue later : Queue)
@@ -70,13 +70,13 @@ pub record HandsOn (channel : ℕ) (old new : Routing) : Type 0 where
   pub displays_are : new.displays ≡ old.displays
   pub gone_are : ReleasesNone old.channels new.channels
 
--- They are the same, but for the room that the channels have, and that for keys that are cancelled. There is no less of it.
+-- The tables are the same except for the room of the channels and of the list for cancelled keys, which did not shrink.
 abbrev pub SameButRoom : (old new : Routing) → Type 0
 SameButRoom old new =
     let bare : Routing → Routing = λ r. record r { channels = but_for_room r.channels; cancelled = 0 } in
     (bare new ≡ bare old) × NoLessRoom old.channels new.channels × (old.cancelled ≤ new.cancelled)
 
--- the tables may go one step on: they stand for some history, and the number of its steps is not the greatest
+-- the tables may make a step: they stand for some history, and the number of its steps is below the greatest number
 pub record MayStep (t : Tables) : Type 0 where
   pub history : List Effect
   pub stands : TablesStandFor history t
@@ -88,7 +88,7 @@ is_routed (Notify now args) = false
 is_routed (Pump now) = false
 is_routed call = true
 
--- All tables went one step on: whatever they stood for, they stand for it with this step more. Only args that are handed in take of the
+-- All tables made a step: they stand for every history that they stood for, with this step added. Only args that are handed in use the
 -- room for args.
 pub record GoesOn (call : Call) (answer : Reply) (old new : Tables) : Type 0 where
   pub after : (es : List Effect) → TablesStandFor es old → TablesStandFor (step old.routing.displays call answer es) new
@@ -96,13 +96,13 @@ pub record GoesOn (call : Call) (answer : Reply) (old new : Tables) : Type 0 whe
   pub gone_are : ReleasesNone old.routing.channels new.routing.channels
   pub room_is : old.queueing.spare ≤ new.queueing.spare + args_in call
 
--- args are handed in and dispatched, one step after the other: between the two only the queue is another
+-- args are handed in and then dispatched, in two steps, between which only the queue differs
 pub record GoesThrough (now : ℕ) (args : Args) (old new : Tables) : Type 0 where
   pub between : Queue
   pub notified : GoesOn (Notify now args) Taken old (record old { queueing = between })
   pub pumped : GoesOn (Pump now) Dispatched (record old { queueing = between }) new
 
--- all are the same, but for that room
+-- all tables are the same except for that room
 pub record SameAll (old new : Tables) : Type 0 where
   pub queueing_is : new.queueing ≡ old.queueing
   pub routing_is : SameButRoom old.routing new.routing

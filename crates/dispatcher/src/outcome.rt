@@ -1,4 +1,4 @@
-//! The results of calls that hand out no message.
+//! The results of calls whose reply has no message.
 ghost use Rattle.std.specs.Prelude.{◌≡◌};
 ghost use Rattle.dispatcher.specs.Outcomes.{reply_of, replied};
 

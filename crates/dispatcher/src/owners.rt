@@ -34,7 +34,7 @@ pub(crate) fn next_reply(routing: &Routing, channel: u32) -> Reply
     }
 }
 
-/// Receives the next message of a channel, if there is one, without handing it out.
+/// Receives the next message of a channel, if there is one. The message is not copied.
 pub(crate) fn receive(routing: &mut Routing, channel: u32)
     ensures { HandsOn channel routing.old routing.new }
 {

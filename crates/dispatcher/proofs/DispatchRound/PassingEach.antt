@@ -17,13 +17,13 @@ use Rattle.dispatcher.specs.DispatchRound.Rounds.{IsLeft}
 use Rattle.dispatcher.proofs.DispatchRound.Reaching.{not_reached, reached_next, reached_other}
 use Rattle.dispatcher.proofs.DispatchRound.Passing.{some_held}
 
--- what a window gets, and what it spends, is by the channel and by what is kept of the window
+-- what a window is sent and what it spends depend only on its channel and on what is kept of it
 record WasSent (ts : List Touches) (m : Motion) (old new : Table) (c : ℕ) : Type 0 where
   changes : GetsPast ts m c (channel_of old c) (channel_of new c)
   tracks : TracksPast ts m c (input_of old c) (input_of new c)
   spends : SpendsOne old new c
 
--- and so where both stay before or afterwards
+-- the same if both stay before or afterwards
 was_sent_after : (ts : List Touches) (m : Motion) (t u v : Table) (c : ℕ) → IsLeft t u c → WasSent ts m u v c → WasSent ts m t v c
 was_sent_after ts m t u v c same h =
     let room : (channel_of u c).spare ≡ (channel_of t c).spare = ap (λ s. s.spare) same.0 in
@@ -52,7 +52,7 @@ was_sent_before ts m t u v c h same =
       };
     }
 
--- the next one is
+-- the Move bypasses the next channel
 pub passes_next : (ts : List Touches) (m : Motion) (mask rest k : ℕ) (t u v : Table) → mask_has rest k ≡ true → mask_has mask k ≡ true
     → PassesEach ts m (reached mask rest) t u → PassesOne ts m k u v
     → PassesEach ts m (reached mask (mask_less rest (mask_with 0 k))) t v
@@ -113,7 +113,7 @@ with_window mask k w moves one is = mask_has-with mask k w ∙ elim (cases_eq w 
     other false false true = refl
     other false false false = refl
 
--- the mask of those that were sent something has it, where it is sent something
+-- the mask of the windows that were sent something has the next one if that is sent something
 pub sent_next : (ts : List Touches) (m : Motion) (mask rest k sent later : ℕ) (moves : Bool) → mask_has rest k ≡ true → mask_has mask k ≡ true
     → moves ≡ some_held ts m k
     → ((w : ℕ) → mask_has sent w ≡ (reached mask rest w && some_held ts m w))
@@ -143,7 +143,7 @@ sent_next ts m mask rest k sent later moves e is moved was now w = elim (cases_e
     or_none false true = refl
     or_none false false = refl
 
--- those that were reached keep nothing
+-- the channels that were reached keep no message
 pub none_next : (mask rest k : ℕ) (t : Table) → mask_has rest k ≡ true → (channel_of t k).messages ≡ []
     → ((w : ℕ) → reached mask rest w ≡ true → (channel_of t w).messages ≡ [])
     → (w : ℕ) → reached mask (mask_less rest (mask_with 0 k)) w ≡ true → (channel_of t w).messages ≡ []
@@ -156,7 +156,7 @@ pub kept_none : (ms : List Message) → (length ms == 0) ≡ true → ms ≡ []
 kept_none [] e = refl
 kept_none (m ∷ ms) e = absurd (omega (arith, eqb-true (length (m ∷ ms)) 0 e))
 
--- all were sent
+-- the Move bypassed all channels
 pub passes_last : (ts : List Touches) (m : Motion) (mask rest : ℕ) (t u : Table) → rest ≡ 0 → PassesEach ts m (reached mask rest) t u
     → PassesEach ts m (mask_has mask) t u
 passes_last ts m mask rest t u none p =
@@ -170,7 +170,7 @@ passes_last ts m mask rest t u none p =
       same = p.same;
     }
 
--- and then they are published
+-- then all are published
 pub moves_past : (ts : List Touches) (m : Motion) (outgoing sent clock : ℕ) (t u v : Table)
     → ((c : ℕ) → mask_has outgoing c ≡ true → mask_has t.live c ≡ true)
     → ((c : ℕ) → mask_has sent c ≡ (mask_has outgoing c && some_held ts m c))

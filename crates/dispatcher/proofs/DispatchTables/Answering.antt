@@ -63,7 +63,7 @@ hands : (b : Bool) (o : Option Message) → (b ≡ true → (m : Message) × (o 
 hands true o f = let x = f refl in (x.0, ap got_reply x.1)
 hands false o f = refl
 
--- whatever was released, the next message is handed out if there is one
+-- whatever was released, the next message is received if there is one
 pub pass_law : (ds : List ℕ) (es : List Effect) (c : ℕ) → Lawful ds es → live (past_of es) c ≡ true
     → Hands (nat_lt (received (past_of es) c) (published es c)) (receive_reply es c)
 pass_law ds es c l lives =

@@ -64,7 +64,7 @@ nothing_is_kept = refl
 pub delivery_is_kept : oldest_of (release_of outgoing) ≡ Some (1, 0)
 delivery_is_kept = refl
 
--- of the second message, which was not received, nothing is kept once all are released, and it is handed out no more
+-- once all messages are released, nothing is kept of the second, which was not received, and `next` lends it no more
 abbrev pub untaken : ChannelState
 untaken = enqueued (Focus false) 9 (received_next (published_at 0 (enqueued (Focus true) 0 (opened_with usual))))
 
@@ -80,7 +80,7 @@ none_is_next = refl
 pub it_was_next : next_of (published_at 9 (release_of untaken)) ≡ Some (record { seq = 2; moment = 9; body = Focus false })
 it_was_next = refl
 
--- whoever has read it may let it go before its owner has it, and then it is passed without being handed out
+-- whoever has read a message may release it before its owner receives it; then a receive only counts it
 pub each_is_gone : next_of (published_at 9 (each_released untaken)) ≡ None
 each_is_gone = refl
 

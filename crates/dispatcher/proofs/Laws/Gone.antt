@@ -69,7 +69,7 @@ opened_gone terms number t u h =
       of_anrs = ap (λ n. n.gone) h.anrs_are;
     }
 
--- where channels are named
+-- if channels are reported
 pub named_gone : (mask clock : ℕ) (t u : Table) → ReleasesNone (named_in mask clock t) u → ReleasesNone t u
 named_gone mask clock t u h = record { of_channels = h.of_channels; of_anrs = h.of_anrs }
 

@@ -136,7 +136,7 @@ no_op_as_is ms ts place f d =
     (λ w i h. refl)
     place
 
--- the tables of touches rest
+-- the tables of touches do not change
 pub touches_rest : (ds : List ℕ) (call : Call) (answer : Reply) (es : List Effect) (k later : Kept) → KeptStandsFor ds es k → step_at call answer es ≡ NoOp
     → StaysBut call answer k later → TouchesGo ds call answer es k.queue.place k.touches later.touches
 touches_rest ds call answer es k later stands e stays =
@@ -199,7 +199,7 @@ no_op_law ds call answer es k later stands r rises rests stays =
     (subst (DeliveryIs (step ds call answer es)) (sym stays.delivery_is)
     (delivery_no_op ds call answer es k.delivery (lawful_step ds call answer es stands.lawful r) rests stands.knows.delivery))
 
--- ---- a tick that names nobody
+-- ---- a tick that reports nobody
 
 none_in : (cs : List ℕ) → filter (mask_has 0) cs ≡ []
 none_in [] = refl

@@ -60,7 +60,7 @@ finish_by ds es d c seq true l is e =
     ∙ ap (λ b. cond (not b) Gone (cond (may_finish seq (d.channel c)) Done UnknownSeq)) e
 finish_by ds es d c seq false l is e = rw e refl
 
--- the channels that a tick names are those that are due by what is kept
+-- the channels that a tick reports are those that are due by what is kept
 late_is : (ds : List ℕ) (es : List Effect) (k : Kept) (now : ℕ) → KeptStandsFor ds es k
     → filter (λ c. is_due (due_moment es c) (max now (clock (past_of es)))) (channels (opened (past_of es))) ≡ late_by k.delivery (max now k.queue.clock)
 late_is ds es k now s =

@@ -38,7 +38,7 @@ pub bare : (es : List Effect) (t : Tables) → TablesStandFor es t → IsAfter e
 bare es t s =
     stands_bare t.routing.displays es t.queueing t.routing.shown t.routing.touches t.routing.covers t.routing.channels t.routing.focus t.routing.repeat s
 
--- without memory nothing changed but the room
+-- out of memory changes nothing but the room
 pub seen_same : (old new : Tables) → SameAll old new → seen new ≡ seen old
 seen_same old new h =
     λ i.
@@ -53,7 +53,7 @@ seen_same old new h =
       repeat = (h.routing_is.0 i).repeat;
     }
 
--- of what stands for a history no message was released that is to be handed out
+-- what stands for a history has not released the message that is received next
 pub may_hand : (es : List Effect) (t : Tables) (call : Call) → StandsFor es (seen t) → MayHand es (kept t.queueing t.routing) call
 may_hand es t (Receive c) s = λ lives.
     let number = live_number t.routing.displays es c s.lawful lives in
@@ -87,13 +87,13 @@ roomier es d n s =
           };
     }
 
--- whether there was memory for it or not
+-- whether or not there was memory for it
 pub roomier_or_not : {A E : Type 0} (r : Result A E) (old new : Dispatching) (n : ℕ) → OnOk r (new ≡ with_room n old) → OnErr r (new ≡ old)
     → (es : List Effect) → IsAfter es old → IsAfter es new
 roomier_or_not (Ok a) old new n ok err es s = subst (IsAfter es) (sym ok) (roomier es old n s)
 roomier_or_not (Err e) old new n ok err es s = subst (IsAfter es) (sym err) s
 
--- where room was reserved, or was not to be had
+-- room was reserved, or memory ran out
 pub reserved_stands : {A E : Type 0} (r : Result A E) (old new : Tables) (n : ℕ) → OnOk r (new.queueing ≡ queue_with_room n old.queueing)
     → OnErr r (new.queueing ≡ old.queueing) → SameButRoom old.routing new.routing → (es : List Effect) → IsAfter es (seen old) → IsAfter es (seen new)
 reserved_stands (Ok a) old new n ok err same es s =
@@ -112,7 +112,7 @@ reserved_stands (Ok a) old new n ok err same es s =
     subst (IsAfter es) (sym is) (roomier es (seen old) n s)
 reserved_stands (Err e) old new n ok err same es s = subst (IsAfter es) (sym (seen_same old new (record { queueing_is = err; routing_is = same }))) s
 
--- the same of room for args
+-- the same for room for args
 pub args_roomier : (es : List Effect) (d : Dispatching) (n : ℕ) → IsAfter es d → IsAfter es (with_args_room n d)
 args_roomier es d n s =
     let q = s.knows.queue in

@@ -194,7 +194,7 @@ removes c place clock old new lives touches displays shown covers channels focus
           record { of_channels = λ k low. ap (λ t. (channel_of t k).gone) channels; of_anrs = ap (λ t. t.anrs.gone) channels };
     }
 
--- a tick that names nobody
+-- a tick that reports nobody
 pub names_none : (place clock : ℕ) (old : Routing) → ((c : ℕ) → is_due (due_moment old.channels c) clock ≡ false)
     → Goes (λ now. Tick now) (Named 0) place clock old old
 names_none place clock old none =

@@ -30,6 +30,6 @@ timely ds es q r now clock s e c lives =
     let number = live_number ds es c s.lawful (sym (live_by es (kept q r).delivery c s.knows.delivery) ∙ lives) in
     timely_law ds es (kept q r) c clock s (omega (arith, e)) number.0 (subst (λ n. c ≤ n) (sym s.knows.delivery.count_is) number.1)
 
--- and whoever is named
+-- and whoever is reported
 pub timely_named : (clock mask at : ℕ) (t u : Table) → u ≡ named_in mask at t → IsTimely clock t → IsTimely clock u
 timely_named clock mask at t u is h = subst (IsTimely clock) (sym is) h

@@ -42,7 +42,7 @@ gone_are_missed (v ∷ ws) next c k =
     named_first (is_gone next v) v (filter (is_gone next) ws) c
     ∙ ap₂ (λ a b. a || b) (gone_here next v c k) (gone_are_missed ws next c k)
 
--- so a channel stays where the next snapshot names it and it is not gone
+-- so a channel stays if the next snapshot lists it and it is not gone
 pub stay : (before next : List Window) (c : ℕ) (b : Bool) → is_channel c ≡ b
     → ((b && is_named next c) && not (b && is_named (filter (is_gone next) before) c)) ≡ (b && stays before next c)
 stay before next c true k = ap (λ t. is_named next c && not t) (gone_are_missed before next c k)

@@ -123,7 +123,7 @@ refocused call place clock old mid mark lost gained g shown some sending rises r
     keyed_by alive f h keys None e k = k
     keyed_by alive f h keys (Some t) e k = λ lives. k lives ∙ e t
 
--- windows are named
+-- windows are reported
 pub names_some : (mask place clock : ℕ) (old new : Routing) → mask < 2 ^ 64
     → ((c : ℕ) → mask_has mask c ≡ is_due (due_moment old.channels c) clock)
     → Names mask (named_keys old.focus mask old.channels) place clock old new
@@ -187,7 +187,7 @@ refocuses_by windows ws live alive f g masks is may shown lives = (
       may y c lt ∙ ap (λ l. mask_has l c && is_focusable_on ws y c) lives ∙ ap (λ v. mask_has alive c && is_focusable_on v y c) shown,
 )
 
--- the keys of the key target, where that is named
+-- the keys of the key target, if that is reported
 pub named_is : (f : FocusState) (mask : ℕ) (t : Table) (target : ℕ) (keys : List KeyMsg) → Some target ≡ listening f t.live → mask_has mask target ≡ true
     → keys ≡ keys_cancelled (input_of t target).keys → keys ≡ named_keys f mask t
 named_is f mask t target keys at has is =

@@ -1,4 +1,4 @@
--- What the calls make of the channels.
+-- How the calls change the channels.
 use Rattle.std.specs.Prelude.{◌≡◌, ℕ, ◌+◌, ◌-◌, ◌≤◌, ◌<◌, true, not, ◌&&◌, nat_le, [], ◌∷◌, length, ◌++◌, slice_set, Option, Some, None, if◌then◌else◌}
 use Rattle.input_types.specs.declared.axis.Pixel.{Pixel}
 use Rattle.input_types.specs.declared.message.Body.{Body}
@@ -25,8 +25,8 @@ pub record IsUnsent (input : Tracked) : Type 0 where
 abbrev pub new_channel : (terms : Terms) → ChannelState
 new_channel terms = with_spare 1 (opened_with terms)
 
--- A channel with the next number is opened on terms, and is live and able. What each window was sent is kept as before, and none but
--- those that were opened was live.
+-- A channel with the next number is opened on these terms, and is live and able. What is kept of the other windows stays. Before, only
+-- channels that were opened were live.
 pub record OpensChannel (terms : Terms) (number : ℕ) (old new : Table) : Type 0 where
   pub few : opened old < 64
   pub as_many : length old.inputs ≡ opened old
@@ -39,13 +39,12 @@ pub record OpensChannel (terms : Terms) (number : ℕ) (old new : Table) : Type 
   pub able_is : new.able ≡ mask_with old.able number
   pub anrs_are : new.anrs ≡ old.anrs
 
--- no channel is opened exactly where 64 are, and nothing changes then
+-- no channel is opened exactly if 64 were opened already, and then nothing changes
 abbrev pub OpensOrNot : (terms : Terms) → Option ℕ → (old new : Table) → Type 0
 OpensOrNot terms None old new = (opened old ≡ 64) × (new ≡ old)
 OpensOrNot terms (Some number) old new = OpensChannel terms number old new
 
--- a channel is sent a body that is in display pixels: its places are counted from an origin where it is enqueued, and not where it is
--- tracked
+-- a channel is sent a body in display pixels: it is enqueued with its positions relative to an origin, and tracked as it is
 pub record Sends (channel : ℕ) (body : Body) (origin : Pixel) (clock : ℕ) (old new : Table) : Type 0 where
   pub channels_are : new.channels ≡ slice_set old.channels (channel - 1) (enqueued (body_from origin body) clock (channel_of old channel))
   pub inputs_are : new.inputs ≡ slice_set old.inputs (channel - 1) (input_of new channel)
@@ -54,7 +53,7 @@ pub record Sends (channel : ℕ) (body : Body) (origin : Pixel) (clock : ℕ) (o
   pub able_is : new.able ≡ old.able
   pub anrs_are : new.anrs ≡ old.anrs
 
--- the same of a channel that releases the message at once
+-- the same for a channel that releases the message at once
 pub record SendsPast (channel : ℕ) (body : Body) (origin : Pixel) (clock : ℕ) (old new : Table) : Type 0 where
   pub channels_are :
       new.channels ≡ slice_set old.channels (channel - 1) (each_released (enqueued (body_from origin body) clock (channel_of old channel)))
@@ -69,7 +68,7 @@ abbrev pub MayPublish : (mask clock : ℕ) → Table → Type 0
 MayPublish mask clock t =
     (c : ℕ) → mask_has mask c ≡ true → mask_has t.live c ≡ true → NoneAfter clock (channel_of t c).unfinished
 
--- the live channels of a mask are published at a clock, and all else is as before
+-- the live channels of a mask publish at a clock, and everything else stays
 pub record Publishes (mask clock : ℕ) (old new : Table) : Type 0 where
   pub channels_are :
       (c : ℕ) → 1 ≤ c
@@ -80,11 +79,11 @@ pub record Publishes (mask clock : ℕ) (old new : Table) : Type 0 where
   pub able_is : new.able ≡ old.able
   pub anrs_are : new.anrs ≡ old.anrs
 
--- a channel once a message of it is finished, and what may be published then is
+-- a channel after one of its messages is finished, and then whatever may be published is published
 abbrev pub finished_at : (seq clock : ℕ) → ChannelState → ChannelState
 finished_at seq clock s = published_at clock (finished_with seq s)
 
--- a message is finished at a clock: its channel is able again, where it is live and no message of it is late then
+-- a message is finished at a clock: its channel is able again if it is live and none of its messages is late then
 abbrev pub finished_in : (channel seq clock : ℕ) → Table → Table
 finished_in c seq clock t =
     let s = finished_at seq clock (channel_of t c) in
@@ -93,7 +92,7 @@ finished_in c seq clock t =
       able = if mask_has t.live c && not (has_late clock s) then mask_with t.able c else t.able;
     }
 
--- the channels of a mask are named at a clock
+-- the channels of a mask are reported unresponsive at a clock
 abbrev pub named_in : (mask clock : ℕ) → Table → Table
 named_in mask clock t =
     record t {
@@ -105,6 +104,6 @@ named_in mask clock t =
 abbrev pub removed_in : ℕ → Table → Table
 removed_in c t = record t { live = mask_less t.live (mask_with 0 c); able = mask_less t.able (mask_with 0 c) }
 
--- how far a channel has come, where it was opened
+-- how far a channel has come, if it was opened
 abbrev pub counts_in : Table → ℕ → Option Counts
 counts_in t c = if nat_le 1 c && nat_le c (opened t) then Some (counts_of (mask_has t.live c) (channel_of t c)) else None

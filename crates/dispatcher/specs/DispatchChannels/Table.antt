@@ -57,7 +57,7 @@ with_room c n t =
       inputs = slice_set t.inputs (c - 1) (tracked_with_spare n (input_of t c));
     }
 
--- the channels as they are but for the room that they have
+-- the channels without regard to their room
 abbrev pub but_for_room : Table → Table
 but_for_room t =
     record t {
@@ -70,7 +70,7 @@ abbrev pub NoLessRoom : (old new : Table) → Type 0
 NoLessRoom old new =
     (c : ℕ) → ((channel_of old c).spare ≤ (channel_of new c).spare) × ((input_of old c).spare ≤ (input_of new c).spare)
 
--- the moment at which a channel is due to be named: its limit after the delivery of its oldest message that is published and not
--- finished, where it is able
+-- the moment at which a channel that is able is due to be reported: its limit after the delivery of its oldest published and
+-- unfinished message
 abbrev pub due_moment : Table → ℕ → Option ℕ
 due_moment t c = due_in (mask_has t.able c) (channel_of t c)

@@ -12,7 +12,7 @@ use Rattle.dispatcher.specs.DispatchRound.Rounds.{IsRound, AllHoldPointers, sent
 use Rattle.dispatcher.specs.DispatchRound.Outgoing.{origin_at, with_bodies}
 use Rattle.dispatcher.specs.DispatchRound.Saying.{Spends}
 
--- The channels that pass the test are sent what is said in the round, in each scene; the others are as they were, and so is all else.
+-- In each scene of the round, the channels that pass the test are sent what the round says. The others stay, and so does everything else.
 pub record SendsEach
     (covers : CoverTable) (r : Round) (ts : List Touches) (losses : Option (List ℕ)) (recipient : ℕ → Bool) (origins : List Pixel) (clock : ℕ)
     (old new : Table) : Type 0 where
@@ -32,7 +32,7 @@ pub record SendsEach
   pub able_is : new.able ≡ old.able
   pub anrs_are : new.anrs ≡ old.anrs
 
--- the same, by what windows lost with the mark of the round, where one pilfers
+-- the same, with what windows lost by the mark of the round, if one pilfers
 pub record SendsChanged
     (covers : CoverTable) (r : Round) (before ts : List Touches) (recipient : ℕ → Bool) (origins : List Pixel) (clock : ℕ) (old new : Table) : Type 0 where
   pub losses : Option (List ℕ)

@@ -1,4 +1,4 @@
--- What telling windows makes of the channels.
+-- How sending windows their messages changes the channels.
 use Rattle.std.specs.Prelude.{◌≡◌, ◌≤◌, ℕ, ◌-◌, true, false, List, [], map, slice_index_or}
 use Rattle.input_types.specs.declared.axis.Pixel.{Pixel}
 use Rattle.input_types.specs.declared.message.Body.{Body}

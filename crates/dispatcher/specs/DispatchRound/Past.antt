@@ -15,7 +15,7 @@ use Rattle.dispatcher.specs.DispatchRound.Steady.{moved}
 use Rattle.dispatcher.specs.DispatchRound.Outgoing.{with_bodies}
 use Rattle.dispatcher.specs.DispatchRound.Rounds.{IsLeft}
 
--- a channel takes what its window is sent of a Move, whatever covers the window and wherever that stands, and releases it
+-- a channel enqueues what its window is sent of a Move and releases it, whatever covers the window and wherever its origin is
 abbrev pub GetsPast : List Touches → Motion → ℕ → (old new : ChannelState) → Type 0
 GetsPast ts m c old new =
     (covers : CoverTable) (o : Pixel) (clock : ℕ) → new ≡ each_released (with_bodies (moved covers ts m c) o clock old)
@@ -30,7 +30,7 @@ pub record SpendsOne (old new : Table) (c : ℕ) : Type 0 where
   pub track_room : (input_of old c).spare ≤ (input_of new c).spare + 1
   pub keys_are : (input_of new c).keys ≡ (input_of old c).keys
 
--- all but the channels, and what is kept of their windows, is as it was
+-- everything except the channels, and what is kept of their windows, is as it was
 pub record SameBut (old new : Table) : Type 0 where
   pub as_many : opened new ≡ opened old
   pub live_is : new.live ≡ old.live
@@ -46,7 +46,7 @@ pub record PassesOne (ts : List Touches) (m : Motion) (w : ℕ) (old new : Table
   pub others : (k : ℕ) → 1 ≤ k → k ≢ w → IsLeft old new k
   pub same : SameBut old new
 
--- and those of all windows that pass a test
+-- a Move bypasses the channels of all windows that pass a test
 pub record PassesEach (ts : List Touches) (m : Motion) (recipient : ℕ → Bool) (old new : Table) : Type 0 where
   pub changes : (c : ℕ) → recipient c ≡ true → GetsPast ts m c (channel_of old c) (channel_of new c)
   pub tracks : (c : ℕ) → recipient c ≡ true → TracksPast ts m c (input_of old c) (input_of new c)

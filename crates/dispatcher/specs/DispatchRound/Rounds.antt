@@ -26,8 +26,8 @@ use Rattle.dispatcher.specs.DispatchChannels.Table.{Table, opened, channel_of, i
 use Rattle.dispatcher.specs.declared.dispatch_round.round.Round.{Round}
 use Rattle.dispatcher.specs.DispatchRound.Bodies.{motions_of, keys_to, bodies_of}
 
--- A motion has this mark, what windows hold of its device is listed in the last motion of that, and these windows watch for touches outside
--- of them; any other step has this mark.
+-- The step is this motion and has this mark; the last motion of its device lists what windows hold of the device; these windows watch for it
+-- outside of them. A step without a motion has this mark.
 abbrev pub IsStepIn : Scene → List Touches → Mark → Option Motion → (watchers : ℕ) → Step → Type 0
 IsStepIn s ts k (Some m) watchers e =
     (e ≡ Moves m)
@@ -45,7 +45,7 @@ pub record IsRound (s : Scene) (e : Step) (ts : List Touches) (r : Round) : Type
 abbrev pub HoldsPointers : Scene → ℕ → Tracked → Type 0
 HoldsPointers s w input = (d : ℕ) → 1 ≤ d → d ≤ 8 → pointers_of input d ≡ listing (s.holds w d) (s.last d)
 
--- and so for each live window
+-- the same for each live window
 abbrev pub AllHoldPointers : Scene → Table → Type 0
 AllHoldPointers s t = (w : ℕ) → mask_has t.live w ≡ true → HoldsPointers s w (input_of t w)
 
@@ -100,11 +100,11 @@ most_bodies r w input =
     + length (keys_to r.target r.keys.now w)
     + length (change_sent (change_of r.lost r.gained w))
 
--- So many bodies at most, whatever the window has: the cancels of 16 pointers of each of 8 devices, its keys, and a change of the focus.
+-- A bound on what it is sent, whatever the window holds: the cancels of 16 pointers of each of 8 devices, its keys, and a change of the focus.
 abbrev pub most_sent : Round → (w : ℕ) → ℕ
 most_sent r w = 129 + length (keys_to r.target r.keys.now w)
 
--- there is room for so many
+-- there is room for that many
 pub record HasMostRoom (r : Round) (t : Table) (w : ℕ) : Type 0 where
   pub room : most_sent r w ≤ (channel_of t w).spare
   pub track_room : most_sent r w ≤ (input_of t w).spare
@@ -118,7 +118,7 @@ pub record HasRoom (r : Round) (t : Table) (w : ℕ) : Type 0 where
   pub room : most_bodies r w (input_of t w) ≤ (channel_of t w).spare
   pub track_room : most_bodies r w (input_of t w) ≤ (input_of t w).spare
 
--- and so for each live window that may be sent something
+-- the same for each live window that may be sent something
 abbrev pub IsReady : List Touches → Round → Table → Type 0
 IsReady ts r t = (w : ℕ) → mask_has t.live w ≡ true → is_concerned ts r w ≡ true → HasRoom r t w
 

@@ -17,7 +17,7 @@ use Rattle.dispatcher.specs.declared.dispatch_round.listener.Listener.{Listener}
 use Rattle.dispatcher.specs.DispatchRound.Bodies.{keys_to, told}
 use Rattle.dispatcher.specs.DispatchRound.Saying.{GetsMotions}
 
--- The round gives and takes nothing. Its motion, where it has one, is a Move, for which no window watches, and no focus changes.
+-- The round gives and takes nothing. Its motion, if it has one, is a Move. No window watches for it, and no focus changes.
 pub record IsSteady (r : Round) : Type 0 where
   pub mark_is : r.mark ≡ NoOp
   pub motion_is : IfSome (option_copied r.motion) (λ m. m.action ≡ Move)
@@ -30,20 +30,20 @@ abbrev pub held_by : List Touches → Option Motion → ℕ → Bool
 held_by ts (Some m) w = any_at ts w m.device
 held_by ts None w = false
 
--- what a window is sent for a Move with which no pointer changes hands: that the pointers move that it holds, where some are listed
+-- what a window is sent for a Move by which no pointer changes hands: a Move of the pointers that it holds, if some of them are listed
 abbrev pub moved : CoverTable → List Touches → Motion → (w : ℕ) → List Body
 moved covers ts m w = told covers w (moves m.device (listing (holds_at ts w m.device) m.pointers))
 
--- of a motion it is sent one message at most
+-- the most messages that a window is sent for the motion
 abbrev pub most_moves : Option Motion → ℕ
 most_moves (Some m) = 1
 most_moves None = 0
 
--- and so many of the round
+-- the most messages that it is sent in the round
 abbrev pub most_steady : Round → (w : ℕ) → ℕ
 most_steady r w = most_moves (option_copied r.motion) + length (keys_to r.target r.keys.now w)
 
--- a channel, and what is kept of its window, have room for so many
+-- a channel, and what is kept of its window, have room for that many
 abbrev pub HasSteadyRoom : Round → Table → (w : ℕ) → Type 0
 HasSteadyRoom r t w = (most_steady r w ≤ (channel_of t w).spare) × (most_steady r w ≤ (input_of t w).spare)
 
@@ -52,7 +52,7 @@ pub record GetsMoves (r : Round) (ts : List Touches) (to : Listener) (old new : 
   pub gets : GetsMotions r ts None to old new
   pub few : length gets.motions ≤ most_moves (option_copied r.motion)
 
--- what it is sent in the round takes no more of its room, and of its keys it leaves what the keys of the round leave
+-- what it is sent in the round uses no more room than that, and the keys that are down in it afterwards are those that the keys of the round leave
 pub record SpendsSteady (r : Round) (old new : Table) (w : ℕ) : Type 0 where
   pub room : (channel_of old w).spare ≤ (channel_of new w).spare + most_steady r w
   pub track_room : (input_of old w).spare ≤ (input_of new w).spare + most_steady r w

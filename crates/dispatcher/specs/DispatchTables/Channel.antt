@@ -27,7 +27,7 @@ channel_at es c gone spare =
       spare = spare;
     }
 
--- what a step does to a channel besides sending: it opens the channel on terms, hands its owner the next message,
+-- what a step does to a channel besides sending: it opens the channel on terms, gives its owner the next message,
 -- finishes a message of it, or none of these
 pub data Part : Type 0 where
   Opens : (terms : Terms) → Part
@@ -64,7 +64,7 @@ abbrev pub counts_of : Bool → ChannelState → Counts
 counts_of is_live s =
     record { sent = sent s; received = s.received; finished = s.finished; published = s.published; live = is_live }
 
--- its owner is handed a message, or none
+-- its owner receives a message, or none
 abbrev pub Hands : Bool → Reply → Type 0
 Hands true answer = (m : Message) × (answer ≡ Got m)
 Hands false answer = answer ≡ Empty

@@ -24,7 +24,7 @@ due_in is_able s = if is_able then option_map (λ p. p.1 + s.terms.limit) (oldes
 abbrev pub due_pair : ℕ × ℕ → Due
 due_pair p = record { moment = p.0; channel = p.1 }
 
--- what is recorded of a channel that is named at a clock
+-- what is recorded of a channel that is reported at a clock
 abbrev pub anr_in : (now channel : ℕ) → ChannelState → Option Anr
 anr_in now c s = option_map (λ p. record { clock = now; channel = c; seq = p.0 }) (oldest_of s)
 
