@@ -8,8 +8,8 @@ use Rattle.dispatch_history.specs.Effects.{effects}
 use Rattle.dispatch_history.specs.History.{History, live}
 use Rattle.dispatch_history.specs.Known.{known_state}
 
--- Nothing follows a removal: the channel stays removed, and its stream stays as it was just before and tells its
--- owner what its window held then.
+-- Nothing follows a removal: the channel stays removed, and its stream stays as it was just before and leaves its
+-- owner knowing what its window held then.
 abbrev pub NothingFollows : List ℕ → List Effect → Type 0
 NothingFollows displays es =
     (later before : History) (now c : ℕ)
@@ -18,8 +18,8 @@ NothingFollows displays es =
     × (stream es c ≡ stream (effects displays before) c)
     × (stream_state (stream es c) ≡ Some (known_state (effects displays before) c))
 
--- Every stream is well-formed, that of a live channel tells its owner what its window holds, and nothing follows a
--- removal.
+-- Every stream is well-formed, that of a live channel leaves its owner knowing what its window holds, and nothing
+-- follows a removal.
 pub record AreWhole (displays : List ℕ) (es : List Effect) : Type 0 where
   pub each : (c : ℕ) → IsTrue (is_well_formed (stream es c))
   pub live_ones : (c : ℕ) → live (past_of es) c ≡ true → stream_state (stream es c) ≡ Some (known_state es c)

@@ -58,8 +58,8 @@ with_spare n r = record { displays = r.displays; entries = r.entries; spare = ma
 abbrev pub with_pumps : ℕ → Recorded → Recorded
 with_pumps n r = record { displays = r.displays; entries = r.entries; spare = max n r.spare; pumps = max n r.pumps }
 
--- Nothing follows a removal: the channel stays removed, and its stream stays as it was just before and tells its
--- owner what its window held then.
+-- Nothing follows a removal: the channel stays removed, and its stream stays as it was just before and leaves its
+-- owner knowing what its window held then.
 abbrev pub KeepsRemoved : Recorded → Type 0
 KeepsRemoved r =
     (later before : History) (now c : ℕ)

@@ -78,7 +78,7 @@ sent_within f (suc n) c one le =
     below_of : (suc n ≡ c → ⊥) → c ≤ n
     below_of ne = elim (cases_lt n c) [ inl lt ↦ absurd (ne (omega (arith, lt, le))) | inr ge ↦ ge ]
 
--- the number of a live channel was handed out
+-- a live channel was opened, so it has one of the numbers up to the last that was opened
 opened_live : (n k c : ℕ) (answer : Reply) (terms : Terms) (before : Bool) → answer ≡ cond (nat_lt n 64) (Opened (n + 1)) Full
     → (before ≡ true → (1 ≤ c) × (c ≤ n)) → live_after (Open terms) answer c before ≡ true → (1 ≤ c) × (c ≤ opened_after (Open terms) answer n)
 opened_live n k c answer terms before r old l =

@@ -90,7 +90,7 @@ abbrev pub DeviceLaw : Type 0
 DeviceLaw =
     (displays : List ℕ) (h : History) (d : ℕ) → Legal displays h → IsTrue (is_some (device_state d (accepted h))) × IsTrue (is_some (device_state d (dispatched (effects displays h))))
 
--- The number of a live channel was handed out.
+-- The number of a live channel is one of those that were opened.
 abbrev pub LiveLaw : Type 0
 LiveLaw = (displays : List ℕ) (h : History) (c : ℕ) → Legal displays h → live h c ≡ true → (1 ≤ c) × (c ≤ opened h)
 
@@ -177,8 +177,8 @@ TermsLaw =
     (displays : List ℕ) (call : Call) (answer : Reply) (h : History) (c : ℕ)
     → Legal displays ((call, answer) ∷ h) → c ≤ opened h → terms_of ((call, answer) ∷ h) c ≡ terms_of h c
 
--- The stream of a live channel is well-formed, and tells its owner what its window holds: exactly the ids and the
--- keys that are down, and whether it is focused.
+-- The stream of a live channel is well-formed, and leaves its owner knowing what its window holds: exactly the ids and
+-- the keys that are down, and whether it is focused.
 abbrev pub WholeLaw : Type 0
 WholeLaw =
     (displays : List ℕ) (h : History) (w : ℕ)
@@ -197,8 +197,8 @@ RemovedLaw =
     → (live (later ++ (Remove now c, Done) ∷ h) c ≡ false)
     × (stream (effects displays (later ++ (Remove now c, Done) ∷ h)) c ≡ stream (effects displays h) c)
 
--- The stream of a removed channel tells its owner what its window held, and whether it was focused, just before the
--- removal.
+-- The stream of a removed channel leaves its owner knowing what its window held, and whether it was focused, just before
+-- the removal.
 abbrev pub RemovedStateLaw : Type 0
 RemovedStateLaw =
     (displays : List ℕ) (later h : History) (now c : ℕ)

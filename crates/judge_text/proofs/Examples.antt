@@ -45,7 +45,7 @@ tap = refl
 finger_down : judged_streams (Ok (stream 7 2 (down ∷ []) ∷ [])) ≡ Err (StillDown 3 (record { pointers = (1, 0 ∷ []) ∷ []; keys = [] }))
 finger_down = refl
 
--- the first section that leaves something down is sent
+-- the first section that leaves something down is reported
 first_section : judged_streams (Ok (stream 7 2 (key 3 30 true ∷ []) ∷ stream 8 5 (down ∷ []) ∷ []))
     ≡ Err (StillDown 3 (record { pointers = []; keys = record { device = 3; scan = 30 } ∷ [] }))
 first_section = refl
@@ -59,7 +59,7 @@ in_order : judged_streams (Ok (stream 7 2 (key 3 9 true ∷ motion 4 Down 0 (fin
     }))
 in_order = refl
 
--- the first message that may not come is sent, also behind a section that leaves a finger down
+-- the first message that may not come is reported, even after a section that leaves a finger down
 two_breaks : judged_streams (Ok (stream 7 2 (down ∷ []) ∷ stream 8 5 (down ∷ down ∷ []) ∷ stream 9 9 (up ∷ []) ∷ [])) ≡ Err (Broken 6 AlreadyDown)
 two_breaks = refl
 

@@ -33,7 +33,7 @@ pub comes : (past : List Told) (s t : StreamState) (m : Told) → stream_state p
 comes past s t m is spelled after =
     reason_there past s m is ∙ none_of (reason_of s m.body) (exact s m.body spelled.body ∙ ap (λ o. not (is_some o)) after)
 
--- and one that is refused is sent with the reason that it has
+-- and one that is refused is reported with its reason
 pub told : (n : ℕ) (old : Option (ℕ × Reason)) (o behind : Option Reason) (why : Reason) → old ≡ None → behind ≡ o → o ≡ Some why
     → Some (n, why) ≡ option_or old (option_map (λ r. (n, r)) behind)
 told n old o behind why none is there = rw (none, is, there) refl

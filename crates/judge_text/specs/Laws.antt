@@ -20,7 +20,7 @@ ReasonLaw = (s : StreamState) (m : Message) → HasSpelling m → is_some (reaso
 abbrev pub SameBreakLaw : Type 0
 SameBreakLaw = (bytes : List ℕ) (streams : List Stream) → streams_in (events_of bytes) ≡ Ok streams → option_map (λ b. b.0) (first_broken streams) ≡ first_break streams
 
--- The keys that are sent to be down rise, and are those of which a repeat is due.
+-- The keys that are reported as down rise, and are those of which a repeat is due.
 abbrev pub KeysLaw : Type 0
 KeysLaw = (past : List Message) (s : StreamState) → stream_state past ≡ Some s
     → (are_rising (keys_after past) ≡ true) × ((device scan : ℕ) → is_held device scan (keys_after past) ≡ is_some (s.repeats device scan))

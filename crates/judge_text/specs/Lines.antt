@@ -1,4 +1,4 @@
--- How a refusal is sent.
+-- How a refusal is written.
 use Rattle.std.specs.Prelude.{codes, ℕ, nat_eq, if◌then◌else◌, List, [], ◌∷◌, ◌++◌}
 use Rattle.std.specs.Fmt.{decimal}
 use Rattle.gesture_verifier.specs.declared.held.HeldKey.{HeldKey}

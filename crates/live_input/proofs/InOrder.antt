@@ -1,4 +1,4 @@
--- The order in which the messages of two windows are handed out, worked out by hand.
+-- The order in which the messages of two windows are received, worked out by hand.
 use Rattle.std.proofs.Common.{◌≡◌, ℕ, zero, suc, true, List, [], ◌∷◌, ◌++◌, reverse, Option, Some, None, refl}
 use Rattle.input_types.specs.declared.message.Args.TheVariants.{Key as KeyOfDevice}
 use Rattle.input_types.specs.declared.message.Message.{Message}
@@ -11,12 +11,12 @@ use Rattle.dispatch_history.proofs.Worked.{at, dispatch, key, moved, one_display
 use Rattle.dispatcher.specs.Access.{got}
 use Rattle.live_input.specs.Order.{next_any}
 
--- the number of a message that is handed out
+-- the number of a message that is received
 abbrev number : Option Message → ℕ
 number None = 0
 number (Some m) = m.seq
 
--- the first n messages that are handed out, each by its channel and its number there; two channels were opened
+-- the first n messages that are received, each by its channel and its number there; two channels were opened
 abbrev handed_out : ℕ → List Effect → List (ℕ × ℕ)
 handed_out zero es = []
 handed_out (suc n) es = elim (next_any es) [

@@ -1,4 +1,4 @@
--- What is handed out of the messages of all clients.
+-- The message that is received next, of the messages of all clients.
 use Rattle.std.specs.Prelude.{ℕ, ◌≡◌, Bool, List, Option, Some, None, Result, Ok, Err}
 use Rattle.std.specs.declared.alloc.AllocError.{AllocError}
 use Rattle.input_types.specs.declared.message.Message.{Message}
@@ -31,7 +31,7 @@ pub record Hands (displays : List ℕ) (es : List Effect) (h : Handed) (old new 
   pub last_is : h.last ≡ is_last (receives displays es old first.channel) first
   pub is : LiveIs displays (receives displays es old first.channel) new
 
--- Nothing is handed out if no client has a message. If memory runs out, nothing changes.
+-- Nothing is received if no client has a message. If memory runs out, nothing changes.
 abbrev pub HandsOut : List ℕ → List Effect → Result (Option Handed) AllocError → (old new : LiveState) → Type 0
 HandsOut displays es (Ok None) old new = (next_any es ≡ None) × (new ≡ old)
 HandsOut displays es (Ok (Some h)) old new = Hands displays es h old new

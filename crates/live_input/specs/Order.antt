@@ -1,4 +1,4 @@
--- The order in which the messages of all clients are handed out.
+-- The order in which the messages of all clients are received.
 use Rattle.std.specs.Prelude.{ℕ, ◌<◌, ◌^◌, zero, suc, Bool, false, not, ◌&&◌, ◌||◌, ◌==◌, nat_lt, List, length, Option, Some, None, if◌then◌else◌}
 use Rattle.input_types.specs.declared.message.Body.{Body}
 use Rattle.input_types.specs.declared.message.Body.TheVariants.{Motion as MotionBody, Key, Focus}
@@ -56,7 +56,7 @@ abbrev pub first_of : List Effect → ℕ → Option First
 first_of es zero = None
 first_of es (suc n) = sooner (first_of es n) (suc n) (place es (suc n))
 
--- the channel whose next message is handed out next
+-- the channel whose next message is received next
 abbrev pub next_any : List Effect → Option First
 next_any es = first_of es (opened (past_of es))
 
@@ -65,7 +65,7 @@ abbrev pub same_step : Place → Option First → Bool
 same_step p None = false
 same_step p (Some f) = p.step == f.place.step
 
--- a message is the last of its step that is left to hand out, where the history after it is this one
+-- a message is the last of its step that is left to receive, if the history after it is this one
 abbrev pub is_last : List Effect → First → Bool
 is_last after f = not (same_step f.place (next_any after))
 

@@ -1,4 +1,4 @@
--- Proved facts about the order in which messages are handed out.
+-- Proved facts about the order in which messages are received.
 use Rattle.std.specs.Prelude.{ℕ, ◌≡◌, ◌≤◌, ◌<◌, ◌⊎◌, ◌↔◌, true, List, Some, None}
 use Rattle.dispatch_calls.specs.declared.call.Call.TheVariants.{Receive}
 use Rattle.dispatch_history.specs.Effect.{Effect, past_of}
@@ -15,7 +15,7 @@ use Rattle.live_input.specs.Seats.{is_open, seat_of}
 use Rattle.live_input.specs.Standing.{LiveIs}
 use Rattle.live_input.specs.State.{LiveState}
 
--- Nothing is handed out next exactly if no opened channel has a message for its client.
+-- Nothing is received next exactly if no opened channel has a message for its client.
 abbrev pub NoneLaw : Type 0
 NoneLaw =
     (es : List Effect)
@@ -26,13 +26,13 @@ NoneLaw =
 abbrev pub NotAfter : (channel : ℕ) → Place → (other : ℕ) → Place → Type 0
 NotAfter c p d q = (p.step < q.step) ⊎ (p.step ≡ q.step) × ((p.rank < q.rank) ⊎ (p.rank ≡ q.rank) × (c ≤ d))
 
--- No message that waits comes before the one that is handed out next.
+-- No message that waits comes before the one that is received next.
 abbrev pub EarliestLaw : Type 0
 EarliestLaw =
     (es : List Effect) (f : First) (c : ℕ) (q : Place)
     → next_any es ≡ Some f → 1 ≤ c → c ≤ opened (past_of es) → place es c ≡ Some q → NotAfter f.channel f.place c q
 
--- What is handed out is what `next` would hand the same client then.
+-- What is received is what `next` would give the same client then.
 abbrev pub ClientsLaw : Type 0
 ClientsLaw =
     (displays : List ℕ) (es : List Effect) (h : Handed) (old new : LiveState)

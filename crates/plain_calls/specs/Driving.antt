@@ -28,7 +28,7 @@ use Rattle.live_input.specs.Standing.{IsMaskOfHeld, LiveIs}
 use Rattle.live_input.specs.declared.limit.Limited.{Limited}
 use Rattle.live_input.specs.State.{latest}
 
--- the first moment at which something is due, which is the clock while something is to be eased or was not told
+-- the first moment at which something is due, which is the clock while something is to be eased or reported
 pub record IsDue (s : Limited) (r : Option ℕ) : Type 0 where
   pub calm : (ds : List ℕ) (es : List Effect) → LiveIs ds es s.live → IsCalm es s → s.live.reported ≡ 0 → r ≡ due_of es s.live
   pub uneasy : (ds : List ℕ) (es : List Effect) → LiveIs ds es s.live → (IsCalm es s → ⊥) → r ≡ Some s.live.clock

@@ -32,7 +32,7 @@ abbrev pub any_status : Result (Option Handed) AllocError → ℕ
 any_status (Ok h) = answer_status h
 any_status (Err error) = status.no_memory
 
--- what is handed out, if something is
+-- what is received, if anything is
 abbrev pub handed_in : Result (Option Handed) AllocError → Option Handed
 handed_in (Ok h) = h
 handed_in (Err error) = None

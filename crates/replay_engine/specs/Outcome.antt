@@ -97,9 +97,9 @@ pub record Writes (q : Asked) (before now : Writing) (status : ℕ) : Type 0 whe
   pub front : status ≡ 5 → WroteFront q before now
   pub nothing : status ≢ 0 → status ≢ 5 → now ≡ before
 
--- What the error sink was sent, by the status. On 1, 2, 3, 4 and 7 that is the line of a refusal with this status, which
--- is the program's answer, on 4 for a reading that failed; on 5 and 6 that of a fault or of running out of memory; on 0
--- nothing.
+-- What was written to the error sink, by status. On 1, 2, 3, 4 and 7 it is the line of a refusal with this status, which
+-- is the program's answer, on 4 for a reading that failed; on 5 and 6 it is the line of a fault or of running out of
+-- memory; on 0 it is nothing.
 pub record Tells (q : Asked) (faults_before faults_now : ℕ) (before now : Writing) (status : ℕ) : Type 0 where
   pub judged : status ≡ 1 → RefusedBy q 1 (TellsLine faults_before faults_now before now)
   pub usage_told : status ≡ 2 → RefusedBy q 2 (TellsLine faults_before faults_now before now)

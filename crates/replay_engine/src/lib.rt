@@ -2,7 +2,7 @@
 //!
 //! `replay` writes what each window is sent for a session and a recording. `race` does so on threads, with the order
 //! that they took in front, and `check` in an order that a file gives. `inspect` writes what a session and a recording
-//! contain, `why` the result of each call, and `work` a summary of a session made from a number. `verify` and `judge`
+//! contain, `why` what each call caused, and `work` a summary of a session made from a number. `verify` and `judge`
 //! judge streams, `compare` compares them, and `batch`, `hover` and `emit` write other texts.
 //!
 //! [`run`] reads the words, answers the command, and writes the text, or reports by a status and a line why there is

@@ -33,7 +33,7 @@ causes_stay Causes ds c answer es =
     let x = effect_of ds (Receive c) answer (args_of (Receive c) answer (inbound (past_of es))) es in
     ap Some (sym (append-nil (why_text ds es)) ∙ ap (λ more. why_text ds es ++ more) (sym (silent_law ds x es (Receive c) answer refl refl)))
 
--- a call that was sent
+-- a call whose causes are written
 pub applies_sent : (call : Call) (es : List Effect) (ds old new : List ℕ) (d : Dispatching) → ExplainsAfter call es ds old new d → Applies call es ds (Some old) (Some new) d
 applies_sent call es ds old new d t = record { answer = t.answer; stands = t.stands; causes = ap (λ text. Some text) t.text_is }
 

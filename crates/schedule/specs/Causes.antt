@@ -1,4 +1,4 @@
--- The causes of the calls of a run, as far as they are sent.
+-- The causes of the calls of a run, if the run writes them.
 use Rattle.std.specs.Prelude.{◌≡◌, ℕ, List, ◌++◌, Option, Some, None, option_map}
 use Rattle.dispatch_calls.specs.declared.call.Call.{Call}
 use Rattle.dispatch_calls.specs.declared.reply.Reply.{Reply}
@@ -16,7 +16,7 @@ causes_of Kept displays es = None
 causes_of Counted displays es = None
 causes_of Causes displays es = Some (why_text displays es)
 
--- a text that there may be, with some more behind it
+-- an optional text with some more appended
 abbrev pub and_more : List ℕ → Option (List ℕ) → Option (List ℕ)
 and_more more text = option_map (λ t. t ++ more) text
 

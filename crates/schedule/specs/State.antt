@@ -14,8 +14,8 @@ use Rattle.schedule.specs.Lines.{Drained, texts}
 use Rattle.schedule.specs.Released.{AllReleased, released}
 use Rattle.schedule.specs.Run.{with_cooked, messages_in, IsWithin}
 
--- a run: the dispatcher, the lines of what each channel was sent and released, the causes of the calls where they are sent, how many steps were
--- made, how many calls, how many messages were released, and the latest moment of args
+-- a run: the dispatcher, the lines of what each channel was sent and released, the causes of the calls if it writes them, how many steps and
+-- how many calls were made, how many messages were released, and the latest moment of args
 pub record ScheduleState : Type 0 where
   pub dispatcher : Dispatching
   pub lines : List (List ℕ)

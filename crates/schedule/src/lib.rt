@@ -18,8 +18,8 @@
 //!
 //! What a run keeps is its [`Lines`]. One that keeps lines writes each message at the end of the round that sent it,
 //! and makes its text of these. One that only counts does the same and has no text. Either way the dispatcher then
-//! releases each message, so a slow owner keeps none in memory: its receives are counted, and hand out nothing. A run
-//! that explains causes writes the result of each call but receives: the first of these rounds gives
+//! releases each message, so a slow owner keeps none in memory: its receives are only counted. A run that explains
+//! causes writes what each call except receives caused: the first of these rounds gives
 //!
 //! ```text
 //! 5000 down 1 0 540,1200 touched 1 row first chosen 1 spies - pilfering - given 1 mute - outside -

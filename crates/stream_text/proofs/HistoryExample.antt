@@ -1,4 +1,4 @@
--- A window takes a down and leaves it unfinished: it is named at its limit, which is five seconds, and loses its pointer.
+-- A window receives a down and leaves it unfinished: it is reported at its limit, which is five seconds, and loses its pointer.
 use Rattle.std.specs.Prelude.{codes, ◌≡◌, [], ◌∷◌, ◌++◌, List, reverse, refl}
 use Rattle.std.specs.Fmt.{digits}
 use Rattle.input_types.specs.declared.motion.MotionAction.TheVariants.{Down}

@@ -42,7 +42,7 @@ end_of bs = do
   finished ← labeled_at (codes " finished ") (2 ^ 64 - 1) received.1
   whole (End id.0 sent.0 received.0 finished.0, finished.1)
 
--- behind `anr `: the clock, the channel that is named, and its oldest unfinished message
+-- after `anr `: the clock, the channel that is reported, and its oldest unfinished message
 unfoldable pub anr_of : List ℕ → Option StreamLine
 anr_of bs = do
   clock ← number_at 1000000000000000000 bs

@@ -1,4 +1,4 @@
--- Steps that are sent as they are made.
+-- Steps whose causes are written as they are made.
 use Rattle.std.proofs.Common.{◌≡◌, ℕ, max, true, false, List, ◌∷◌, ◌++◌, flat_map, Result, Ok, Err, IfOk, OnOk, refl, sym, ap, ap₂, ◌∙◌, append-nil, subst}
 use Rattle.dispatch_calls.specs.Moments.{moment_of}
 use Rattle.dispatch_calls.specs.declared.call.Call.{Call}

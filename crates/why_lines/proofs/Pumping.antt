@@ -48,7 +48,7 @@ abbrev pub next_words : Option (ℕ × KeyMsg) → List (List ℕ)
 next_words None = []
 next_words (Some n) = repeat_word n.1 n.0 ∷ []
 
--- where a repeat is due, it is sent as it is made
+-- if a repeat is due, its line is that of the repeat that is made
 pub next_sent : (es : List Effect) → is_some (repeat_due es) ≡ true → repeat_words (last_key es) ≡ next_words (next_of (while_held es (last_key es)))
 next_sent es e = by_last (last_key es) e
   where

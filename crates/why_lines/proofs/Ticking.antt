@@ -1,4 +1,4 @@
--- A tick: who is named, and what that loses.
+-- A tick: who is reported, and what that window loses.
 use Rattle.std.proofs.Common.{◌≡◌, ℕ, suc, ◌+◌, max, Bool, true, false, not, cond, ◌&&◌, ◌||◌, List, [], ◌∷◌, map, filter, is_some, Option, Some, None, refl, sym, ap, ◌∙◌}
 use Rattle.std.specs.Prelude.{option_map}
 use Rattle.std.specs.Fmt.{decimal}
@@ -72,7 +72,7 @@ none_due es c at none e = by_oldest (oldest es c) refl (due_is es c at e).1
         let clash : Some (m.seq, delivery es c m.seq) ≡ None = sym here ∙ none in
         cc clash
 
--- a channel that a tick names loses all
+-- a channel that a tick reports loses everything
 pub named_loses : (ds : List ℕ) (es : List Effect) (now w : ℕ) (answer : Reply) → Lawful ds (step ds (Tick now) answer es)
     → is_due (due_moment es w) (max now (clock (past_of es))) ≡ true
     → LosesAll (effect_of ds (Tick now) answer (args_of (Tick now) answer (inbound (past_of es))) es) es w

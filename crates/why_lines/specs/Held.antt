@@ -18,7 +18,7 @@ pub record HoldThis (es : List Effect) (h : Held) : Type 0 where
   pub rows_are : (k : ℕ) → k < 64 → RowIs (holds es (k + 1)) (slice_index_or h.rows.now k [])
   pub keys_are : (w : ℕ) → held_keys h w ≡ keys es w
 
--- the step dispatches no args, and names no window unresponsive
+-- the step dispatches no args, and reports no window unresponsive
 pub record IsQuiet (x : Effect) : Type 0 where
   pub no_args : x.args ≡ None
   pub unnamed : (w : ℕ) → reports x.past w ≡ false

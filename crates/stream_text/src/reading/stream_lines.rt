@@ -12,11 +12,11 @@ use text_lines::{FirstLine, first_line};
 /// Where a stream file stands between two lines.
 #[derive(Clone, Copy)]
 pub(crate) enum Place {
-    /// Behind the order, or a section.
+    /// After the order, or after a section.
     Between,
     /// In the section of a channel, after this many of its messages.
     Section { id: u32, told: u64 },
-    /// Behind a naming.
+    /// After an ANR line.
     Anrs,
 }
 

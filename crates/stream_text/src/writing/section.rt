@@ -1,4 +1,4 @@
-//! Sections of channels, and namings.
+//! Sections of channels, and ANR lines.
 ghost use Rattle.std.specs.Prelude.{◌≡◌, ◌++◌, IfOk, OnOk, OnErr};
 ghost use Rattle.stream_text.specs.Spelling.{channel_line, channel_section, end_line, anr_line};
 

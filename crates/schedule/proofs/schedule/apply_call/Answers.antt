@@ -1,4 +1,4 @@
--- A call that is sent, and one that is not.
+-- A call whose causes are written, and one whose causes are not.
 use Rattle.std.proofs.Common.{sym, subst}
 use Rattle.dispatcher.proofs.Made.Following.{known_so}
 use Rattle.schedule.specs.More.{ComesTo}

@@ -1,4 +1,4 @@
--- A message that comes has no reason not to come, and one that does not is sent with its reason.
+-- A message that may come has no reason not to, and any other is reported with its reason.
 use Rattle.std.proofs.Common.{◌≡◌, None, Err, refl, sym, ap, ◌∙◌}
 use Rattle.gesture_verifier.specs.Told.{state_of}
 use Rattle.judge_text.proofs.WhyBroken.{comes, none_of, reason_there, told}

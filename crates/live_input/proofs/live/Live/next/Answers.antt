@@ -1,4 +1,4 @@
--- A message is handed out and released.
+-- A message is received and released.
 use Rattle.std.proofs.Common.{◌≡◌, ◌+◌, refl, sym, ap, ap₂, ◌∙◌, subst}
 use Rattle.std.specs.Prelude.{IfSome}
 use Rattle.dispatch_calls.specs.declared.call.Call.TheVariants.{Receive}
