@@ -1,4 +1,4 @@
-"""Runs a program as a child, for the scripts of this folder, and tells how long it took and the peak memory of the
+"""Runs a program as a child, for the scripts of this folder, and says how long it took and the peak memory of the
 child alone.
 
 The kernel begins the peak of a child with that of the process that started it, and a script that made a recording
@@ -114,7 +114,7 @@ def refused(words, status, line):
 
 
 def file_of(folder, name, text):
-    """Writes a file into the folder, and tells its path."""
+    """Writes a file into the folder, and returns its path."""
     path = os.path.join(folder, name)
     with open(path, "w", encoding="ascii", newline="") as file:
         file.write(text)

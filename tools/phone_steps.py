@@ -15,7 +15,7 @@ PAGE = os.path.join(answering.TOP, "viewer/make")
 # What a phone says of itself, by the name of the property.
 NAMES = [("model", "ro.product.model"), ("android", "ro.build.version.release"), ("build", "ro.build.fingerprint")]
 COMMANDS = [("inspect", "inspect.txt"), ("replay", "streams.txt"), ("why", "causes.txt")]
-# The fingers and keys that are told on the terminal.
+# The fingers and keys that are printed on the terminal.
 SHOWN = 20
 
 

@@ -96,7 +96,7 @@ def status_of(tool, main):
 
 
 def write_failed(error):
-    """Says what a write that failed is told by, if anybody is left to be told."""
+    """Reports a write that failed, if anybody is left to read it."""
     if error.errno != errno.EPIPE:
         with contextlib.suppress(OSError):
             sys.stderr.write("write failed\n")

@@ -12,7 +12,7 @@ WALL = "NO_INPUT_CHANNEL"
 WALL_FLAGS = ("NOT_TOUCHABLE", "NOT_FOCUSABLE", "TRUSTED_OVERLAY")
 FLAGS = ("NOT_TOUCHABLE", "SPY", "PREVENT_SPLITTING", "SLIPPERY", "WATCH_OUTSIDE_TOUCH", "NOT_FOCUSABLE", "TRUSTED_OVERLAY")
 
-# What Android says of a window that changes what windows are told, and that a session cannot say.
+# What Android says of a window that changes what windows are sent, and that a session cannot say.
 UNSAID = {
     "PAUSE_DISPATCHING": "paused: it would be told nothing until it goes on",
     "DROP_INPUT": "its input is dropped",
@@ -23,7 +23,7 @@ UNSAID = {
     "CLONE": "it is a clone of another window",
 }
 SCALED = "scaled or turned, so that its places are other ones"
-# What says nothing about who is told what.
+# What says nothing about who is sent what.
 PASSED_OVER = {
     "DISABLE_USER_ACTIVITY", "IS_WALLPAPER", "NOT_VISIBLE", "NOT_TOUCH_MODAL", "NONE", "DEFAULT", "SENSITIVE_FOR_PRIVACY",
     "SENSITIVE_FOR_TRACING", WALL,
@@ -180,7 +180,7 @@ def mark_unreachable(shown, displays):
 
 
 def kept(steps, said):
-    """At most 64 windows, those first that can be told anything or can be touched, then front to back."""
+    """At most 64 windows, those first that can be sent anything or can be touched, then front to back."""
     able = collections.OrderedDict()
     for shown in steps:
         for window in shown:

@@ -10,7 +10,7 @@ MAGIC = [
     (b"SQLite format 3", "an SQLite database"),
 ]
 
-# Those in front are told first: what getevent prints without -t may have a list of devices before it.
+# Those in front are reported first: what getevent prints without -t may have a list of devices before it.
 TEXTS = [
     (r"^\s*(/\S*:\s+)?[0-9a-fA-F]{4} +[0-9a-fA-F]{4} +[0-9a-fA-F]{8}", "what getevent prints without -t: no moments; record with getevent -t"),
     (r"^\s*(/\S*:\s+)?EV_[A-Z]+\s+\S+\s+\S+", "what getevent -l prints without -t: no moments; record with getevent -t"),

@@ -1,14 +1,14 @@
 /*
  * The main loop of a compositor over one touch panel: events go from the kernel to a live service, and what each window
- * is told is printed as it comes, a line of a stream file behind its channel.
+ * is sent is printed as it comes, as a line of a stream file after its channel.
  *
  *     evdev /dev/input/event3      a device node, by libevdev; it ends with the device, or by a signal
  *     evdev FILE 1080 2400         a file of struct input_event of a panel whose positions are these pixels
  *
  * Two clients have a window each, the left and the right half of the screen. Each is done with a message at once.
  *
- * A compositor does not end for want of memory, nor because of a device that contradicts itself: such a status is told on
- * standard error, and the loop goes on (passed, hand_in).
+ * A compositor does not end when memory runs out, nor because of a device that contradicts itself: such a status is
+ * printed on standard error, and the loop goes on (passed, hand_in).
  */
 #include <errno.h>
 #include <fcntl.h>
@@ -48,7 +48,7 @@ static void demand(int status, const char *what)
 		fail(what, inputflinger_status_text(status));
 }
 
-/* Whether what was handed in was taken. False for want of memory alone, where nothing changed. */
+/* Whether what was handed in was taken. False only if memory ran out; then nothing changed. */
 static bool passed(int status, const char *what)
 {
 	if (status == INPUTFLINGER_OK)
@@ -106,13 +106,13 @@ static void deliver(struct loop *loop)
 	fflush(stdout);
 }
 
-/* The clock is at a moment: what is due is done, and who does not respond is told. */
+/* The clock is at a moment: runs everything that is due, and reports who does not respond. */
 static void advance(struct loop *loop, uint64_t now)
 {
 	uint64_t late;
 
 	loop->now = now;
-	/* Where only a part is done for want of memory, the next call does the rest and tells who is late. */
+	/* If memory runs out, only a part is done; the next call does the rest and reports who is late. */
 	if (!passed(inputflinger_live_advance(&loop->live, now, &late), "advance"))
 		return;
 	for (uint32_t channel = 1; late != 0; channel++, late >>= 1)

@@ -24,12 +24,12 @@ class Client:
 
 @dataclasses.dataclass(frozen=True)
 class Handed:
-    """A message that is handed out with its client."""
+    """A message that was received, with its client."""
 
     client: Client
     message: Message
     last: bool
-    """Whether no message of the same step is left to hand out now."""
+    """Whether no other message of the same step is left to receive now."""
 
 
 @dataclasses.dataclass(frozen=True)
@@ -255,7 +255,7 @@ class Live:
         done(native.call("live_focus", byref(self._handle), u64(now_us), u8(display), told))
 
     def pilfer(self, now_us: int, client: Client, device: int) -> None:
-        """Lets a client whose window is a spy take the pointers of a device that it holds from all other windows."""
+        """Lets a client's spy pilfer: it takes the pointers of a device that it holds from all other windows."""
         done(native.call("live_pilfer", byref(self._handle), u64(now_us), byref(client.plain()), u8(device)))
 
     def waiting(self) -> FrozenSet[int]:
@@ -265,15 +265,15 @@ class Live:
         return _members(mask.value, 1)
 
     def next(self, client: Client) -> Optional[Message]:
-        """Hands a client its next message; None if there is none, or the client is not open."""
+        """Receives the next message of a client; None if there is none, or the client is not open."""
         message = native.Message()
         status = native.call("live_next_sized", byref(self._handle), byref(client.plain()), byref(message), ctypes.sizeof(message))
         return message_of(message) if found(status) else None
 
     def next_any(self) -> Optional[Handed]:
-        """Hands out the next message of any client, in the order in which the service sent them; None if there is none.
+        """Receives the next message of any client, in the order in which the service sent them; None if there is none.
 
-        Each client gets the messages that ``next`` would hand it, in the same order."""
+        Each client gets the messages that ``next`` would give it, in the same order."""
         client, message, last = native.Client(), native.Message(), ctypes.c_bool()
         size = ctypes.sizeof(message)
         status = native.call("live_next_any_sized", byref(self._handle), byref(client), byref(message), size, byref(last))

@@ -1,4 +1,4 @@
-"""The laws of `why`: its lines follow from one another, from what the devices did and from the steps of the session, and windows are told in
+"""The laws of `why`: its lines follow from one another, from what the devices did and from the steps of the session, and windows are sent in
 the streams of `replay` what the lines say."""
 import copy
 from collections import Counter
@@ -119,7 +119,7 @@ def busier(case):
 
 
 def caused(program, case, told):
-    """What `why` says of a case that windows are told is what `replay` tells them, and what it says of devices what they did; and so
+    """What `why` says of a case that windows are sent is what `replay` prints for them, and what it says of devices what they did; and so
     with other steps."""
     held_to(case, program.text(["why"] + program.files(case.session, case.recording)).decode("ascii"), told)
     if case.devices:

@@ -1,4 +1,4 @@
-"""The lines of `why`, gone through one by one: who holds what by them, and what windows are to be told."""
+"""The lines of `why`, gone through one by one: who holds what by them, and what windows must be sent."""
 from collections import Counter
 
 from .cause_lines import BEHIND, FORMS, WALL, lost, one, rising
@@ -7,7 +7,7 @@ from .trust import blockers, marks
 
 
 class Causes:
-    """Goes through the lines and keeps who holds what. `said` is what windows have to be told by them, `seen` what the devices did, and
+    """Goes through the lines and keeps who holds what. `said` is what windows must be sent by them, `seen` what the devices did, and
     `answering` when windows were responsive again."""
 
     def __init__(self, case):
@@ -38,7 +38,7 @@ class Causes:
         getattr(self, "on_" + word)(*match.groups())
 
     def settle(self):
-        """A step is over: what holds after each one, and what windows are told of the focus."""
+        """A step is over: what holds after each one, and what windows are sent of the focus."""
         need(self.key_target == self.focus.get(self.asked), "at %d keys go to %s" % (self.at, self.key_target))
         focused = {window for window in self.focus.values() if window}
         for window in (focused ^ self.focused) - self.removed:
@@ -233,7 +233,7 @@ class Causes:
 
     def on_timeout(self, window, seq, words):
         self.namings.append("anr %d %s %s" % (self.at, window, seq))
-        need(int(window) not in self.mute | self.removed, "window %s is named again" % window)
+        need(int(window) not in self.mute | self.removed, "window %s is reported again" % window)
         self.drop(int(window), words)
         self.holds_nothing(int(window))
         self.mute.add(int(window))

@@ -1,4 +1,4 @@
-"""How many messages of a channel are received and finished, and when it is named, told from the moments of its
+"""How many messages of a channel are received and finished, and when it is reported, computed from the moments of its
 messages."""
 from bisect import bisect_right
 
@@ -20,8 +20,8 @@ def delivered(times, delay, finishes):
 
 
 def named(came, done, limit, stop):
-    """The namings of a channel up to a moment, as (clock, number), and beside each the finish that makes the channel
-    able again. It is named where it is able and its oldest unfinished message is there for the limit; a finish of
+    """The ANRs of a channel up to a moment, as (clock, number), and beside each the finish that makes the channel
+    able again. It is reported if it is able and its oldest unfinished message is there for the limit; a finish of
     that moment comes first. It is able again at a finish that leaves no message that is there for the limit."""
     names = []
     able = True
@@ -48,11 +48,11 @@ class Bounds:
         said = [int(c[2][-1].split(" ")[1]) for c in told[0] if c[2]] + [int(text.split(" ")[1]) for text in told[1]]
         self.least = max([planned] + said)
         self.most = max(planned, last_line)
-        need(self.least <= self.most, "something is told at %d, and the run ends at %d" % (self.least, self.most))
+        need(self.least <= self.most, "something is sent at %d, and the run ends at %d" % (self.least, self.most))
 
 
 def counted(case, told, bounds, removed):
-    """The counts and the namings of a run by moment. Returns for each channel its namings."""
+    """The counts and the ANRs of a run by moment. Returns for each channel its ANRs."""
     said = [tuple(int(n) for n in text.split(" ")[1:]) for text in told[1]]
     least, most = [], []
     of_channels = []

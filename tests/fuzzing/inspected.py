@@ -54,7 +54,7 @@ def device_law(case, events, match, hints, messages):
     need((hint == "silent") == (not own), "device %d: %r" % (number, hint))
     if not args:
         told = [m for m in messages if re.match(r"\d+ \d+ (motion|key) %d " % number, m)]
-        need(not told, "device %d gives no args, and %r is told" % (number, told[:1]))
+        need(not told, "device %d gives no args, and %r is sent" % (number, told[:1]))
     return args
 
 

@@ -1,4 +1,4 @@
-"""Laws of what judges streams: `verify`, `judge` and `compare`. What each of them has to say is told from the
+"""Laws of what judges streams: `verify`, `judge` and `compare`. What each of them has to say is computed from the
 streams."""
 import re
 
@@ -61,7 +61,7 @@ def why_twice(text):
 
 def judges(program, case, told):
     """A message twice, of those that cannot come twice, is the first that is not well-formed, and so is a touch outside with a mark; a line
-    with a blank behind it is no line. Of the streams as they are it is told which section leaves something down."""
+    with a blank behind it is no line. Of the streams as they are it reports which section leaves something down."""
     ends_so_judged(program, told)
     rng = case.drawn("judges")
     outside_with_marks(program, told, rng)
@@ -167,7 +167,7 @@ def points(told):
 
 def compared(program, case, told):
     """A text is the same as itself, as one without its moves, and as one with a point that is off by no more than is
-    allowed, and it is told how far that is; a point that is off by one more, has another id, or is not there, is told
+    allowed, and `compare` says how far that is; a point that is off by one more, has another id, or is not there, is reported
     with its line. With each move a point, moves are missing in a text without them; a channel of it is the same as its
     own section alone."""
     rng = case.drawn("compared")

@@ -1,4 +1,4 @@
-"""The law of keys: one that goes down is told to the focused window, and repeated while nothing else happens."""
+"""The law of keys: one that goes down is sent to the focused window, and repeated while nothing else happens."""
 from collections import Counter
 
 from .laws import FOCUS, KEY, need
@@ -52,13 +52,13 @@ def keyed(_, case, told):
 
 
 def repeated(case, told, events, busy):
-    """The last key that was told, as a down, is told again after its time, where no key, step or naming comes first, and never where the
+    """The last key that was sent, as a down, is sent again after its time, if no key, step or ANR comes first, and never where the
     session repeats no key."""
     busy = sorted(busy | {int(text.split(" ")[1]) for text in told[1]})
     keys = sorted((int(text.split(" ")[1]), c[0], text) for c in told[0] for text in c[2] if KEY.fullmatch(text))
     if not case.repeats:
         for _, number, text in keys:
-            need(KEY.fullmatch(text).group(8) in (None, "0"), "channel %d is told a repeat: %s" % (number, text))
+            need(KEY.fullmatch(text).group(8) in (None, "0"), "channel %d is sent a repeat: %s" % (number, text))
         return
     times = Counter(moment for moment, _, _ in keys)
     end = last_moment(case, told)

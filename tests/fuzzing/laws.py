@@ -62,7 +62,7 @@ def sections(out):
             _, number, name = text.split(" ")
             messages = []
         elif text.startswith("anr "):
-            need(messages is None, "a naming stands in a section: %s" % text)
+            need(messages is None, "an ANR stands in a section: %s" % text)
             namings.append(text)
         elif text.startswith("end "):
             match = END.fullmatch(text)
@@ -171,12 +171,12 @@ def owner_of(messages):
 def first_ones(short, long, words):
     """Of two texts of streams, the messages of each channel of the one are the first ones of the other."""
     for (number, _, some, _), (_, _, more, _) in zip(short[0], long[0]):
-        need(some == more[: len(some)], "%s, channel %d is told something else" % (words, number))
-    need(short[1] == long[1][: len(short[1])], "%s, other channels are named" % words)
+        need(some == more[: len(some)], "%s, channel %d is sent something else" % (words, number))
+    need(short[1] == long[1][: len(short[1])], "%s, other channels are reported" % words)
 
 
 def until(told, moment):
-    """Of a text of streams what was told and named up to a moment, that one too."""
+    """Of a text of streams, what was sent and reported up to a moment, that one too."""
     channels = [[m for m, t in zip(c[2], moments(c[2])) if t <= moment] for c in told[0]]
     return channels, [text for text in told[1] if int(text.split(" ")[1]) <= moment]
 

@@ -67,7 +67,7 @@ def inside(rects, place):
 
 
 def sensible(case, name, action, moment, told, places):
-    """The place that is told is one of the mouse, less the corner of the window; it lies in the window but at an
+    """The place that is sent is one of the mouse, less the corner of the window; it lies in the window but at an
     exit."""
     for corner, rects in frames_of(case, name, moment):
         place = tuple(told[k] + corner[k] for k in (0, 1))
@@ -96,7 +96,7 @@ def candidates(case, removed, moment, place, on=0):
 
 
 class Stays:
-    """What is told of the mouse: when it is over which window, and each arrival at a place."""
+    """What is sent of the mouse: when it is over which window, and each arrival at a place."""
 
     def __init__(self):
         self.spans = []
@@ -106,8 +106,8 @@ class Stays:
         """The messages of a channel in turns: it is entered, moved over, and left; nothing comes after its removal."""
         entered, before = None, 0
         for moment, action, _ in messages:
-            need((action == "ENTER") == (entered is None), "%s is told %s at %s" % (name, action, moment))
-            need(before <= moment <= last, "%s is told something at %s" % (name, moment))
+            need((action == "ENTER") == (entered is None), "%s is sent %s at %s" % (name, action, moment))
+            need(before <= moment <= last, "%s is sent something at %s" % (name, moment))
             before = moment
             if action == "EXIT":
                 self.spans.append((entered, moment, name))
@@ -119,7 +119,7 @@ class Stays:
             self.spans.append((entered, last, name))
 
     def fit(self, case, path, removed):
-        """One window is entered at a time, and each packet that moves the mouse is told where it comes to."""
+        """One window is entered at a time, and each packet that moves the mouse is sent where it comes to."""
         self.spans.sort()
         for one, other in zip(self.spans, self.spans[1:]):
             need(one[1] <= other[0], "two windows are entered at a time: %s, %s" % (one, other))
@@ -127,7 +127,7 @@ class Stays:
             told = [name for at, name in self.arrivals if at == moment]
             places = [after for at, _, after in path if at == moment]
             stays = [first < moment < last for first, last, _ in self.spans]
-            need(not any(stays) or len(told) == len(places), "at %d %d moves are told %s" % (moment, len(places), told))
+            need(not any(stays) or len(told) == len(places), "at %d %d moves are sent as %s" % (moment, len(places), told))
             if len(places) > 1:
                 continue
             there = list(candidates(case, removed, moment, places[0]))

@@ -42,13 +42,13 @@ def fits(case, told, removed, down):
     owners = {name: owner_of(messages) for _, name, messages, _ in told[0]}
     for number, _, messages, (sent, received, finished) in told[0]:
         wrong = set(moments(messages)) - known
-        need(not wrong, "channel %d is told something at %s" % (number, sorted(wrong)[:3]))
+        need(not wrong, "channel %d is sent something at %s" % (number, sorted(wrong)[:3]))
         need(received <= finished + 64, "channel %d took %d and finished %d" % (number, received, finished))
     left(case, owners, removed, down)
 
 
 def first_calls(program, case, order, told, count, removed):
-    """The first calls of an order give the first messages; what is told to a channel is all told before its removal."""
+    """The first calls of an order give the first messages; what a channel is sent, it is sent before its removal."""
     short = program.check(case, order.text(count))
     first_ones(short, told, "after %d calls" % count)
     for one, other in zip(short[0], told[0]):
@@ -97,7 +97,7 @@ def raced(program, case, _):
 
 
 def settled(case, order, told, removed):
-    """Owners took what they were told, and finished it where they finish."""
+    """Owners received what they were sent, and finished it if they finish."""
     taken, finished = {}, {}
     for call in order.calls:
         match = CALL.fullmatch(call)
@@ -123,7 +123,7 @@ def settled(case, order, told, removed):
 
 
 def in_turn(program, case, told):
-    """Where steps come first and nobody is late, the same is told as by `replay` where all steps are made, and then
+    """Where steps come first and nobody is late, the same is sent as by `replay` where all steps are made, and then
     each args is handed in and dispatched."""
     if not case.plain:
         return
@@ -136,7 +136,7 @@ def in_turn(program, case, told):
         calls = calls[: line - 2]
     short = program.check(case, Order(case, calls).text())
     for one, other in zip(short[0], told[0]):
-        need(one[2] == other[2], "in turn channel %d is told %s, and not %s" % (one[0], one[2][-2:], other[2][-2:]))
+        need(one[2] == other[2], "in turn channel %d is sent %s, and not %s" % (one[0], one[2][-2:], other[2][-2:]))
 
 
 def made(case, rng):

@@ -1,4 +1,4 @@
-"""Laws of what reads streams again: `batch` and `emit`. What each of them has to say is told from the stream."""
+"""Laws of what reads streams again: `batch` and `emit`. What each of them has to say is computed from the stream."""
 import re
 
 from .judging import lines_of, written
@@ -110,7 +110,7 @@ def gesture(last, now):
 
 
 def back(lines, device):
-    """The text of one window over a display of 16384 pixels that is told a stream again: each motion is a packet."""
+    """The text of one window over a display of 16384 pixels that is sent a stream again: each motion is a packet."""
     messages = []
     last = {}
     for _, moment, wanted in packets_of(lines, device):
@@ -163,4 +163,4 @@ def emitted(program, case, told):
             ends_so(run, 1 if line else 0, line)
             if not line:
                 out = program.replay(AGAIN.encode(), run[1])
-                need(out == back(lines, device), "what was emitted for channel %d is told as %r" % (number, out[:300]))
+                need(out == back(lines, device), "what was emitted for channel %d is sent as %r" % (number, out[:300]))

@@ -21,12 +21,12 @@ def named_so(case, told):
 
 
 def delay_after(case, repeat):
-    """How long after a down with this repeat number the next repeat is told."""
+    """How long after a down with this repeat number the next repeat is sent."""
     return case.repeat_us[0 if repeat == 0 else 1]
 
 
 class Sources:
-    """The moments at which a message of each kind may be told."""
+    """The moments at which a message of each kind may be sent."""
 
     def __init__(self, case, steps, events):
         first = case.devices[0][1] if case.devices else None
@@ -68,7 +68,7 @@ class Sources:
 
 def held_by(number, messages, names, sources, removed):
     """Goes through the messages of a channel: each may come, at such a moment; nothing comes after a removal; a
-    channel that is named is told cancels, holds nothing then, and is told of nothing but the focus until it is able
+    channel that is reported is sent cancels, holds nothing then, and is sent nothing but the focus until it is able
     again."""
     owner = Owner()
     waiting = list(names)
@@ -120,7 +120,7 @@ def left(case, owners, removed, down):
         most = len(state.fingers)
         need(len(ids) <= most, "fingers %s of device %d are down, which has %d" % (sorted(ids), number, most))
     for device, scan in keys if down else ():
-        need(int(scan) in down[int(device) - 1].keys, "key %s of device %s is down, and was let go" % (scan, device))
+        need(int(scan) in down[int(device) - 1].keys, "key %s of device %s is down, and was released" % (scan, device))
 
 
 def judged(case, out, steps, events, rising=True):

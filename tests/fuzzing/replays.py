@@ -55,15 +55,15 @@ def last_moment(case, told):
 
 
 def cut(program, case, told):
-    """The recording up to some line. What is told before the first line that is cut off, and before the end of the
-    shorter run, is the same; where nothing but args makes messages, all that is told is the beginning of the longer
+    """The recording up to some line. What is sent before the first line that is cut off, and before the end of the
+    shorter run, is the same; where nothing but args makes messages, all that is sent is the beginning of the longer
     run."""
     rng = case.drawn("cut")
     kept = rng.randint(0, len(case.lines))
     short = again(program, case, case.steps, "".join(case.lines[:kept]).encode())
     behind = [int(line[1:9]) * 10**6 + int(line[10:16]) for line in case.lines[kept:] if line.startswith("[")]
     if not behind:
-        need(short == told, "without lines that have no event something else is told")
+        need(short == told, "without lines that have no event something else is sent")
     elif case.plain:
         first_ones(short, told, "cut at line %d" % kept)
         alike(short, told, min(behind) - 1)
@@ -72,14 +72,14 @@ def cut(program, case, told):
 
 
 def alike(one, other, moment):
-    """Up to a moment two runs are told the same."""
+    """Up to a moment two runs send the same."""
     for what, a, b in zip(("told", "named"), until(one, moment), until(other, moment)):
         need(a == b, "up to %d other things are %s: %s and %s" % (moment, what, a, b))
 
 
 def early(program, case, told):
-    """The steps up to one of them. What is told before the first step that is left out is the same, as the end stays;
-    so what is told to a channel before its removal does not know of the removal."""
+    """The steps up to one of them. What is sent before the first step that is left out is the same, as the end stays;
+    so what a channel is sent before its removal does not know of the removal."""
     steps = sorted(case.steps, key=lambda step: step[0])
     removals = [k for k, step in enumerate(steps) if step[2] == "remove"]
     rng = case.drawn("early")
@@ -99,16 +99,16 @@ def with_windows(steps, change):
 
 
 def trusting(program, case, told):
-    """Windows of one owner are told the same whatever their opacity and their occlusion are."""
+    """Windows of one owner are sent the same whatever their opacity and their occlusion are."""
     steps = with_windows(case.steps, lambda window: window._replace(owner=4294967295))
     plain = with_windows(case.steps, lambda window: window._replace(owner=0, opacity=100, occlusion="block"))
     one, other = (program.replay(case.session_text(some).encode(), case.recording) for some in (steps, plain))
-    need(one == other, "windows of one owner are told something else with other opacities")
-    need(not MARKS.search(one.decode("ascii")), "a window is told of marks, and no other has another owner")
+    need(one == other, "windows of one owner are sent something else with other opacities")
+    need(not MARKS.search(one.decode("ascii")), "a window is sent marks, and no other has another owner")
 
 
 def covered(program, case, told):
-    """Under windows of another owner over each display, which touches go through, the same is told with one mark: each pointer is given where
+    """Under windows of another owner over each display, which touches go through, the same is sent with one mark: each pointer is given where
     a window is obscured, and so nowhere where it is not."""
     covers = [Window("over%d" % k, k, (0, 0) + sides(display), ("NOT_TOUCHABLE", "NOT_FOCUSABLE"), None, 4294967295, 100, "allow")
               for k, display in enumerate(case.displays)]
@@ -120,7 +120,7 @@ def covered(program, case, told):
     finally:
         case.channels = channels
     bare = lambda of: [(number, name, [MARKS.sub("", text) for text in messages], counts) for number, name, messages, counts in of]
-    need((bare(both[0][: len(channels)]), both[1]) == (bare(told[0]), told[1]), "under windows of another owner something else is told")
+    need((bare(both[0][: len(channels)]), both[1]) == (bare(told[0]), told[1]), "under windows of another owner something else is sent")
     for number, _, messages, _ in both[0]:
         for text in messages:
             match = MOTION.fullmatch(text)
@@ -133,4 +133,4 @@ def shuffled(program, case, told):
     if case.apart:
         steps = [step[:3] + (step[3][::-1] if step[2] == "windows" else step[3],) for step in case.steps]
         other = again(program, case, steps, case.recording)
-        need(other == told, "windows that lie apart are told something else in another order")
+        need(other == told, "windows that lie apart are sent something else in another order")

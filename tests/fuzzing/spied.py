@@ -23,7 +23,7 @@ def pointers_of(listed):
 
 
 def places_fit(case, number, name, messages, seen):
-    """What a window is told of a device lies where the spy sees it at that moment, less a corner of the window."""
+    """What a window is sent of a device lies where the spy sees it at that moment, less a corner of the window."""
     for text in messages:
         match = MOTION.fullmatch(text)
         if not match or match.group(4) == "CANCEL" or match.group(6):
@@ -42,7 +42,7 @@ def places_fit(case, number, name, messages, seen):
 
 
 def spied(program, case, told):
-    """Nobody is told anything else because of the spies, who are told each motion of their displays; and a finger that
+    """Nobody is sent anything else because of the spies, who are sent each motion of their displays; and a finger that
     goes down first, where one window alone can be touched, goes to that window."""
     if any(step[2] == "pilfer" for step in case.steps):
         return
@@ -55,7 +55,7 @@ def spied(program, case, told):
         both = judged(case, out, steps, read(case.recording)[0])
     finally:
         case.channels, case.spies = channels, more
-    need((both[0][: len(channels)], both[1]) == told, "with spies in front other windows are told something else")
+    need((both[0][: len(channels)], both[1]) == told, "with spies in front other windows are sent something else")
     seen = {}
     for display, (_, _, messages, _) in enumerate(both[0][len(channels) :]):
         for text in messages:
@@ -69,8 +69,8 @@ def spied(program, case, told):
 
 
 def first_down(case, told, display, match, pointer):
-    """Where one window alone can be touched, and is not blocked, it is told that the finger goes down, with its mark, and the windows in front of it that
-    watch are told of a touch outside; those that were named once may not be."""
+    """Where one window alone can be touched, and is not blocked, it is sent the DOWN of the finger, with its mark, and the windows in front of it that
+    watch are sent a touch outside; those that were reported once may not be."""
     moment, removed = int(match.group(2)), removals(case.steps)
     there = list(candidates(case, removed, moment, pointer[1:], display))
     if len(there) != 1:

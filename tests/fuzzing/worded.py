@@ -1,4 +1,4 @@
-"""Words of a form and of none, and files that fail. What is wrong with words is told here from the table of docs/STATUSES.md, and not as the program
+"""Words of a form and of none, and files that fail. What is wrong with words is computed here from the table of docs/STATUSES.md, and not as the program
 finds it; which file is at fault follows from what was made of each."""
 import os
 

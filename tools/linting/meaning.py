@@ -143,7 +143,7 @@ def removals(findings, plan):
 
 
 def focus(findings, plan):
-    """Keys that nobody is told, and a focus that its window cannot have."""
+    """Keys that nobody is sent, and a focus that its window cannot have."""
     windows = {}
     for step in in_order(plan):
         if step.get("do") == "windows":

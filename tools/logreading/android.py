@@ -88,7 +88,7 @@ def real(fields, key):
 
 
 class Reader:
-    """Reads the lines of a log that have an event. Windows are told by `window=NAME`, or by a regular expression of the caller's, or else by the
+    """Reads the lines of a log that have an event. Windows are identified by `window=NAME`, or by a regular expression of the caller's, or else by the
     tag and the process."""
 
     name = "Android"

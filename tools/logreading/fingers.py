@@ -97,7 +97,7 @@ class Fingers:
             gesture.down.pop(finger, None)
 
     def go_up(self, number, window, moment, device, finger, x=None, y=None, canceled=False):
-        """A finger goes up, at a new place if one is told. One that is cancelled is POINTER_UP canceled, and the last one CANCEL."""
+        """A finger goes up, at a new place if one is given. One that is cancelled is POINTER_UP canceled, and the last one CANCEL."""
         self.flush(window, device)
         gesture = self.gesture(window, device)
         self.stranger(number, gesture, finger, "goes up", x, y)

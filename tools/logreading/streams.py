@@ -9,7 +9,7 @@ REFUSED = "; it is written so, and verify refuses it"
 
 
 class Notes:
-    """What is told on standard error: each text once, with the first line of the log that it is about and how many there are."""
+    """What is written to standard error: each text once, with the first line of the log that it is about and how many there are."""
 
     def __init__(self):
         self.found = {}
@@ -24,7 +24,7 @@ class Notes:
 
 
 class Section:
-    """What one window was told."""
+    """What one window was sent."""
 
     def __init__(self, number, name):
         self.number = number

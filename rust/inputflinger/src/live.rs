@@ -162,14 +162,14 @@ pub struct Received {
     pub user_data: u64,
 }
 
-/// What [`Live::next_any`] hands out.
+/// What [`Live::next_any`] receives: a message, and whose it is.
 #[derive(Clone, Debug, PartialEq, Eq)]
 pub struct Handed {
     /// Whose message it is.
     pub client: Client,
     /// The message.
     pub received: Received,
-    /// Whether no message of the same step is left to hand out now.
+    /// Whether no other message of the same step is left to receive now.
     pub last: bool,
 }
 
@@ -800,7 +800,7 @@ impl Live {
         done(unsafe { sys::inputflinger_live_focus(&mut self.handle, now_us, display, &plain) })
     }
 
-    /// Lets a client whose window is a spy take the pointers of a device that it holds from all other windows.
+    /// Lets a client's spy pilfer: it takes the pointers of a device that it holds from all other windows.
     ///
     /// # Errors
     ///
@@ -820,7 +820,7 @@ impl Live {
         mask
     }
 
-    /// Hands a client its next message; None if there is none, or if the client is not open.
+    /// Receives the next message of a client; None if there is none, or if the client is not open.
     ///
     /// # Errors
     ///
@@ -835,8 +835,8 @@ impl Live {
         Ok(found(status, message)?.map(|message| Received::of(&message)))
     }
 
-    /// Hands out the next message of any client, in the order in which the service sent them; None if no client has one.
-    /// Each client gets the messages that [`next`](Live::next) would hand it, in the same order. The messages of an
+    /// Receives the next message of any client, in the order in which the service sent them; None if no client has one.
+    /// Each client gets the messages that [`next`](Live::next) would give it, in the same order. The messages of an
     /// earlier step come first; of one step, motions come before keys and keys before the focus, of each what ends comes
     /// first, then what goes on, then what begins, and then the lesser channel comes first.
     ///
@@ -994,8 +994,8 @@ impl Live {
     }
 
     /// The first key that is down on a device: the least scan code of those that are down and at least `from`. A window
-    /// that gets the focus while a key is down is sent nothing for that key; tell a client that must know of it, such
-    /// as one of Wayland, by `wl_keyboard.enter`.
+    /// that gets the focus while a key is down is sent nothing for that key. If a client must know of such keys, send it
+    /// a list of them yourself, as a Wayland compositor does with `wl_keyboard.enter`.
     ///
     /// ```
     /// use inputflinger::{Live, LiveError, Repeats};
