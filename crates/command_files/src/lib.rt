@@ -6,8 +6,8 @@
 //!
 //! ```text
 //! a session of 5 MiB           too long: session
-//! [[display]] without a width  session: Missing display.1.width
-//! a line `key`                 recording: BadLine 1
+//! [display] without a width    session: Missing display.width
+//! a line `[1.0] key`           recording: BadLine 1
 //! ```
 #![tactic(auto)]
 

@@ -9,8 +9,8 @@
 //! inputflinger_live_open                                     1: the handle is free
 //! ```
 //!
-//! A window that is sent a well-formed stream sees whole gestures. The test of a toolkit shows a judge the messages
-//! that a window received, one by one, and learns which one breaks the stream:
+//! A window that is sent a well-formed stream sees whole gestures. A toolkit's test shows a judge the messages that a
+//! window received, one by one, and learns which one breaks the stream:
 //!
 //! ```text
 //! inputflinger_judge_new   of a handle whose bytes are 0     0, and the handle has a judge

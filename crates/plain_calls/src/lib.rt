@@ -5,12 +5,12 @@
 //! its own:
 //!
 //! ```text
-//! coming::open                                              0, and the client is generation 1, channel 1
+//! clients::open                                             0, and the client is generation 1, channel 1
 //! showing::windows  one of generation 1, channel 1          0
-//! driving::args     motion 1 DOWN 0:540,1200                14, NO_DEVICE: no device 1 is plugged in
+//! giving::args      motion 1 DOWN 0:540,1200                14, NO_DEVICE: no device 1 is plugged in
 //! plugging::add_touch  display 4                            4, RANGE: displays are 0 to 3
-//! layouts::add_keys    display 0, key 30 a                  20, BAD_LAYOUT: line 1, names are in capitals
-//! getting::finish   1, of generation 7, channel 1           8, NOT_OPEN
+//! plugging::add_keys   display 0, key 30 a                  20, BAD_LAYOUT: line 1, names are in capitals
+//! messages::finish  1, of generation 7, channel 1           8, NOT_OPEN
 //! ```
 //!
 //! A number out of its range is reported before anything changes (`Reads` of specs/Calling). The clause of a call says
