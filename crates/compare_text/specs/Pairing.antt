@@ -1,4 +1,4 @@
--- Pairing while it goes on: which sections are paired already, and what the pairs so far measure.
+-- Pairing in progress: which sections are paired already, and what the pairs so far measure.
 use Rattle.std.specs.Prelude.{ℕ, ◌+◌, ◌&&◌, nat_eq, nat_le, if◌then◌else◌, slice_index, List, [], ◌∷◌, Option, Some, None, Result, Ok, Err}
 use Rattle.input_types.specs.declared.message.Message.{Message}
 use Rattle.compare_text.specs.declared.error.CompareError.{CompareError}
@@ -29,6 +29,6 @@ abbrev pub measured_after : Measure → Option CompareError → List PointPair �
 measured_after m None ps = Ok (joined m (measure ps))
 measured_after m (Some fault) ps = Err fault
 
--- what the points of two sections say, behind other pairs
+-- what the points of two sections say, after other pairs
 abbrev pub points_say : (us pixels : ℕ) → Measure → (want got : List (ℕ × Message)) → Result Measure CompareError
 points_say us pixels m want got = measured_after m (first_difference us pixels want got) (points_paired want got)

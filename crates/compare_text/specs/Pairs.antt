@@ -40,7 +40,7 @@ pair_with w got None rest = Lone w ∷ rest got
 pair_with w got (Some found) rest = Both w found.0 ∷ rest found.1
 
 -- The pairs of expected and actual sections: each expected one, in order, with the first actual one of its channel that
--- has no partner yet, and behind them the actual ones that have none. So the first of a channel is paired with the
+-- has no partner yet, and after them the actual ones that have none. So the first of a channel is paired with the
 -- first, the second with the second.
 abbrev pub pairs : (want got : List Section) → List Pair
 pairs [] got = map New got

@@ -7,16 +7,16 @@ use Rattle.gesture_verifier.specs.declared.reason.Reason.{Reason}
 use Rattle.gesture_verifier.specs.Reasons.{reason_of}
 use Rattle.stream_text.specs.StreamFile.{Stream}
 
--- why a message may not come behind those of `past`, the newest of which is the first
+-- why a message may not come after those of `past`, newest first
 abbrev pub reason_behind : List Message → Message → Option Reason
 reason_behind past m = option_and_then (λ s. reason_of s m.body) (stream_state past)
 
--- The line of the first message that may not come, and why, of messages that stand from line `line` on behind those of `past`.
+-- The line of the first message that may not come, and why, of messages from line `line` on, after those of `past`.
 abbrev pub broken_from : ℕ → List Message → List Message → Option (ℕ × Reason)
 broken_from line past [] = None
 broken_from line past (m ∷ ms) = option_or (option_map (λ why. (line, why)) (reason_behind past m)) (broken_from (line + 1) (m ∷ past) ms)
 
--- that of a file's streams, of which the first broken one counts
+-- that of a file's streams: the first broken one counts
 abbrev pub first_broken : List Stream → Option (ℕ × Reason)
 first_broken [] = None
 first_broken (s ∷ ss) = option_or (broken_from s.first_line [] s.messages) (first_broken ss)

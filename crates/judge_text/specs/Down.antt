@@ -14,7 +14,7 @@ pub record Down : Type 0 where
   pub pointers : List (ℕ × List ℕ)
   pub keys : List HeldKey
 
--- the ids that are down on a device, where each message might come when it came
+-- the ids that are down on a device, if each message was allowed when it came
 abbrev pub ids_in : Option StreamState → ℕ → List ℕ
 ids_in None device = []
 ids_in (Some s) device = s.ids device

@@ -11,7 +11,7 @@ use Rattle.judge_text.specs.declared.error.JudgeError.TheVariants.{BadLine, Brok
 use Rattle.judge_text.specs.Broken.{first_broken}
 use Rattle.judge_text.specs.Down.{Down, down_after, is_nothing}
 
--- something is down behind a line
+-- something is down after a line
 abbrev pub something : ℕ → Down → Option (ℕ × Down)
 something line down = if is_nothing down then None else Some (line, down)
 
@@ -44,7 +44,7 @@ answer (Some broken) down sections messages lines = Err (Broken broken.0 broken.
 answer None (Some down) sections messages lines = Err (StillDown down.0 down.1)
 answer None None sections messages lines = if nat_eq messages 0 then Err Nothing else Ok (lines ++ count_line sections messages)
 
--- a file with a bad line is refused for it, and only another one is judged
+-- a file with a bad line is refused for that line; any other file is judged
 abbrev pub judged_streams : Result (List Stream) ℕ → Result (List ℕ) JudgeError
 judged_streams (Err bad) = Err (BadLine bad)
 judged_streams (Ok streams) = answer (first_broken streams) (first_left_down streams) (length streams) (messages_in streams) (whole_lines streams)

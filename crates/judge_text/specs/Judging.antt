@@ -14,12 +14,12 @@ use Rattle.judge_text.specs.Broken.{reason_behind}
 use Rattle.judge_text.specs.Down.{Down, down_after}
 use Rattle.judge_text.specs.Judged.{answer, something, whole_line}
 
--- the number of a line, where its message may not come behind those of its section, and why
+-- the number of a line, if its message may not come after those of its section, and why
 abbrev pub broken_at : List Told → ℕ → StreamLine → Option (ℕ × Reason)
 broken_at past n (Message m) = option_map (λ why. (n, why)) (reason_behind past m)
 broken_at past n _ = None
 
--- the number of a line, where it ends a section after which something is down
+-- the number of a line, if it ends a section after which something is down
 abbrev pub down_at : List Told → ℕ → StreamLine → Option (ℕ × Down)
 down_at past n (End id sent received finished) = something n (down_after past)
 down_at past n _ = None
@@ -58,7 +58,7 @@ pub record Known : Type 0 where
 abbrev pub Knows : List Told → Known → Type 0
 Knows past j = j.broken ≡ None → VerifierStandsFor past j.tables
 
--- what is known behind a line
+-- what is known after a line
 pub record Takes (past : List Told) (n : ℕ) (line : StreamLine) (old new : Known) : Type 0 where
   pub knows : Knows (sent_after past line) new
   pub broken : new.broken ≡ option_or old.broken (broken_at past n line)

@@ -1,4 +1,4 @@
--- What holds of judging.
+-- Proved facts about judging.
 use Rattle.std.specs.Prelude.{◌≡◌, ℕ, not, true, List, Some, is_some, Result, Ok}
 use Rattle.std.specs.Option.{option_map}
 use Rattle.input_types.specs.declared.message.Message.{Message}
@@ -11,12 +11,12 @@ use Rattle.stream_text.specs.StreamFile.{Stream, events_of, streams_in}
 use Rattle.judge_text.specs.Broken.{first_broken}
 use Rattle.judge_text.specs.Down.{keys_after}
 
--- A message that a stream file can spell has a reason exactly where the rule for streams has no next state.
+-- A message that a stream file can spell has a reason exactly if the rule for streams has no next state.
 abbrev pub ReasonLaw : Type 0
 ReasonLaw = (s : StreamState) (m : Message) → HasSpelling m → is_some (reason_of s m.body) ≡ not (is_some (after_body s m.body))
 
--- The message of a file that is said to be broken is the first one that the rule for streams does not let come, and there is one exactly
--- where the file is not well-formed.
+-- The message that is reported as broken is the first that the rule for streams does not allow. There is one exactly if the file is
+-- not well-formed.
 abbrev pub SameBreakLaw : Type 0
 SameBreakLaw = (bytes : List ℕ) (streams : List Stream) → streams_in (events_of bytes) ≡ Ok streams → option_map (λ b. b.0) (first_broken streams) ≡ first_break streams
 

@@ -23,7 +23,7 @@ word KeyNotDown = codes "KeyNotDown"
 word RepeatOnUp = codes "RepeatOnUp"
 word FocusTwice = codes "FocusTwice"
 
--- ids, the first behind a mark and each further one behind a comma
+-- ids, the first after a mark and each further one after a comma
 abbrev pub ids_text : List ℕ → List ℕ → List ℕ
 ids_text mark [] = []
 ids_text mark (id ∷ ids) = mark ++ (decimal id ++ ids_text (codes ",") ids)

@@ -4,7 +4,7 @@ ghost use Rattle.plain_calls.specs.Options.{options_of};
 
 use live_input::Options;
 
-/// What a client is opened with: `struct inputflinger_options`. All zeros is what is meant unless more is said.
+/// What a client is opened with: `struct inputflinger_options`. All zeros are the default.
 #[repr(C)]
 #[derive(Clone, Copy, Debug)]
 pub struct PlainOptions {

@@ -17,7 +17,7 @@ pub struct PlainRepeats {
 }
 
 impl PlainRepeats {
-    /// The repeats, None if keys are never repeated; None if a number is out of its range.
+    /// The repeats, in which None says that keys are never repeated; None if a number is out of its range.
     fn read(&self) -> Option<Option<Repeats>>
         ensures { result ≡ repeats_of self.now }
     {

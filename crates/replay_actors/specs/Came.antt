@@ -1,4 +1,4 @@
--- How far the caller has come that settles a core.
+-- How far the caller that settles a core has come.
 use Rattle.std.specs.Prelude.{◌≡◌, ℕ, ◌+◌, ◌-◌, ◌*◌, Bool, List, ◌++◌, length, Option, Some, None}
 use Rattle.key_repeat.specs.Due.{Sent}
 use Rattle.dispatch_calls.specs.declared.call.Call.{Call}
@@ -14,7 +14,7 @@ use Rattle.replay_actors.specs.Race.{Each}
 use Rattle.replay_actors.specs.Settling.{Settling, strays, settling}
 use Rattle.turnstile.specs.History.{Entry as Called}
 
--- Since the start the caller, number 0, made these calls, and stands so.
+-- Since the start, the caller, number 0, made these calls, which lead to this state.
 pub record Came (finishing : ℕ → Bool) (start : Recorded) (stage : Settling) (now : Recorded) : Type 0 where
   pub since : List (Called Call Reply)
   pub entries_are : called now.entries ≡ since ++ called start.entries
@@ -36,8 +36,8 @@ abbrev pub repeats_left : Option Sent → ℕ
 repeats_left None = 0
 repeats_left (Some s) = 4294967295 - s.key.repeat
 
--- At most so many pumps more find something to do: one for each args that wait, and one for each repeat of the key that is held. Args may
--- be a key that goes down, whose repeats begin anew.
+-- A bound on the pumps that still find something to do: one for each args that wait, and one for each repeat of the key that is held. Args
+-- may be a key that goes down, whose repeats begin anew.
 abbrev pub pumps_left : List ℕ → History → ℕ
 pumps_left displays h = length (inbound h) * 4294967296 + repeats_left (while_held (effects displays h) (last_key (effects displays h)))
 

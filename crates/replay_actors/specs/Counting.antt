@@ -1,4 +1,4 @@
--- How often the threads of a race ask, and how often for nothing.
+-- How many calls of a race find something to do, and how many find nothing.
 use Rattle.std.specs.Prelude.{ℕ, suc, [], ◌∷◌}
 use Rattle.dispatch_calls.specs.declared.call.Call.{Call}
 use Rattle.dispatch_calls.specs.declared.call.Call.TheVariants.{Pump, Tick, Receive}

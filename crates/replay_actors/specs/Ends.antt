@@ -1,4 +1,4 @@
--- What a race leaves behind, by who called.
+-- The history that a race leaves, by caller.
 use Rattle.std.specs.Prelude.{◌≡◌, ◌+◌, ℕ, Bool, List, ◌++◌}
 use Rattle.input_types.specs.declared.message.Args.{Args}
 use Rattle.dispatch_calls.specs.declared.call.Call.{Call}

@@ -18,7 +18,7 @@ calls_made own = map (λ e. e.1) own
 abbrev pub notifies : List (ℕ × Args) → List Call
 notifies cooked = map (λ a. Notify a.0 a.1) cooked
 
--- where the dispatcher stands: after so many idle answers it pumps next, or it ticks next, or it made another call than was due
+-- the state of the dispatcher: it pumps next, after so many idle answers; it ticks next; or it made a call that was not due
 pub data Pumping : Type 0 where
   pumps : ℕ → Pumping
   ticks : ℕ → Pumping
@@ -35,13 +35,13 @@ pumping_then (pumps n) (Pump now) reply = if now == 0 then after_pump n reply el
 pumping_then (ticks n) (Tick now) reply = if now == 0 then pumps n else strays
 pumping_then stage call reply = strays
 
--- where the dispatcher stands after its calls
+-- the state of the dispatcher after its calls
 abbrev pub pumping : List Own → Pumping
 pumping [] = pumps 0
 pumping (e ∷ own) = pumping_then (pumping own) e.1 e.2
 
--- where an application stands: after so many answers without a message it receives from this channel next, or it finishes a message of it
--- first, or it made another call than was due
+-- the state of an application: it receives from this channel next, after so many answers without a message; it first finishes a message of
+-- the channel; or it made a call that was not due
 pub data Receiving : Type 0 where
   receives : (idle channel : ℕ) → Receiving
   owes : (idle channel seq : ℕ) → Receiving

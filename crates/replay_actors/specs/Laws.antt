@@ -1,4 +1,4 @@
--- What is proved of races, and of what is printed of them. Each law is the clause of a function of its own.
+-- Proved facts about races, and about what is printed of them. Each law is the clause of a function of its own.
 use Rattle.std.specs.Prelude.{◌≡◌, ℕ, ◌+◌, Bool, List, ◌++◌, length, map, reverse, Some, Ok}
 use Rattle.input_types.specs.declared.message.Args.{Args}
 use Rattle.dispatch_calls.specs.declared.call.Call.{Call}
@@ -32,7 +32,7 @@ pub record RaceOf (plan : Plan) (finishing : ℕ → Bool) (seats : List ℕ) (e
   pub opens_are : calls_made opened ≡ reverse (opens plan.channels)
   pub lanes_are : AreLanes 1 scripts plan.steps
 
--- Who follows the order of a race makes its very calls, and so its history with all its effects.
+-- Following the order of a race makes exactly its calls, and so gives its history with all its effects.
 abbrev pub OrderLaw : Type 0
 OrderLaw =
     (plan : Plan) (finishing : ℕ → Bool) (seats : List ℕ) (entries : List Entry)
@@ -72,7 +72,7 @@ pub record Prints (plan : Plan) (finishing : ℕ → Bool) (names : List (List �
       ≡ order_spelling (order_of_history seats r.entries) ++ streams_text names (run plan.displays (reverse calls))
   pub settled : Settled plan.displays (replay plan.displays (reverse calls)) finishing
 
--- A race of a plan prints so.
+-- Every race of a plan prints in this way.
 abbrev pub PrintsLaw : Type 0
 PrintsLaw =
     (plan : Plan) (finishing : ℕ → Bool) (names : List (List ℕ)) (seats : List ℕ) (r : Recorded)

@@ -19,6 +19,6 @@ pub record Stays (v w : Known) : Type 0 where
 abbrev pub Adds : Call → Reply → Known → Known → Type 0
 Adds call reply v w = (place : ℕ) × (w.mine.own ≡ (place, call, reply) ∷ v.mine.own)
 
--- a seat had the turn for a call, after some turns at which it was not free, and there was no memory for it
+-- a seat got the turn for a call, after some misses, and memory ran out in the call
 abbrev pub Refuses : Known → Known → Type 0
 Refuses v w = (n : ℕ) × (w ≡ failed (waited n v))

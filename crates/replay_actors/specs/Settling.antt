@@ -6,8 +6,8 @@ use Rattle.dispatch_calls.specs.declared.reply.Reply.{Reply}
 use Rattle.dispatch_calls.specs.declared.reply.Reply.TheVariants.{Idle, Got}
 use Rattle.dispatch_history.specs.History.{History}
 
--- where the caller stands: it pumps, or ticks next, or receives from this channel next, or finishes a message of it first, or it made another
--- call than was due
+-- the state of the caller: it pumps next; it ticks next; it receives from this channel next; it first finishes a message of the channel; or
+-- it made a call that was not due
 pub data Settling : Type 0 where
   pumps_out : Settling
   looks : Settling

@@ -22,7 +22,7 @@ pub record MayRun (s : Start) : Type 0 where
   pub opens : OnlyOpens (view s.seat).mine.own
   pub opened : length (view s.seat).mine.own ≡ s.lanes.channels
 
--- What a race that began so may leave behind: a sound core, whose history is a race of these lanes that is settled.
+-- What a race with this start may leave: a sound core, whose history is a race of these lanes that is settled.
 pub record Left (s : Start) (end : RaceEnd) : Type 0 where
   pub displays : (view s.seat).setup ≡ Some end.core.displays
   pub race :
@@ -34,7 +34,7 @@ pub record Left (s : Start) (end : RaceEnd) : Type 0 where
   pub seats : length end.script_seats.items ≡ length s.lanes.scripts.items
   pub sound : IsSound end.core
 
--- Who runs races takes each start that may be, and answers an end that it may leave behind, or none.
+-- A function that runs races accepts every allowed start, and returns an end that such a race may leave, or none.
 abbrev pub RunsRaces : (Start → Type 0) → (Start → RaceEnd → Type 0) → Type 0
 RunsRaces pre post = ((s : Start) → MayRun s → pre s) × ((s : Start) (end : RaceEnd) → MayRun s → post s end → Left s end)
 

@@ -13,7 +13,7 @@ use Rattle.schedule.specs.declared.plan.Step.{Step}
 use Rattle.schedule.specs.Next.{fore, up_to, sooner_with, next_finish}
 use Rattle.schedule.specs.State.{ScheduleState, ReadyWith}
 
--- what may be done next but for steps and args, in the order that decides where moments agree
+-- what may be done next except steps and args, in the order that decides at equal moments
 abbrev pub dues_of : Plan → List Effect → List Candidate
 dues_of plan es =
     all_finishes (past_of es) 1 plan.channels ++ due_tick (first_due es) ++ due_repeat (length (inbound (past_of es)) == 0) (repeat_due es)

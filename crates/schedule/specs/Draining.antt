@@ -8,7 +8,7 @@ use Rattle.dispatcher.specs.MovedOn.{last_moved}
 use Rattle.stream_text.specs.Spelling.{message_line}
 use Rattle.window_snapshot.specs.Mask.{mask_has}
 
--- the lines after some more were put behind those of a channel
+-- the lines after some more were appended to those of a channel
 abbrev pub WithMore : (more : List ℕ) → ℕ → List (List ℕ) → List (List ℕ) → Type 0
 WithMore more channel old new =
     (length new ≡ length old)
@@ -19,7 +19,7 @@ WithMore more channel old new =
 abbrev pub count_to : (n mask : ℕ) → ℕ
 count_to n mask = sum_by (λ c. if mask_has mask c then 1 else 0) (channels n)
 
--- the lines after those of the last Move were put behind those of each channel of a mask
+-- the lines after those of the last Move were appended to those of each channel of a mask
 abbrev pub WithLast : (sent device : ℕ) → List Effect → Dispatching → List (List ℕ) → List (List ℕ) → Type 0
 WithLast sent device es d old new =
     (length new ≡ length old)

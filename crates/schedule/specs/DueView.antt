@@ -17,7 +17,7 @@ call_of t Repeat = calls.Pump t
 abbrev pub candidate_of : Due → Candidate
 candidate_of d = record { moment = d.moment; calls = call_of d.moment d.what ∷ [] }
 
--- the sooner of two that may be there; of one moment the first one stays
+-- the sooner of two optional ones; at equal moments the first
 abbrev pub sooner_due : Option Due → Option Due → Option Due
 sooner_due None due = due
 sooner_due (Some first) None = Some first

@@ -13,7 +13,7 @@ abbrev pub is_opening : Call → Bool
 is_opening (Open terms) = true
 is_opening call = false
 
--- the owner of a channel is done with a message
+-- the owner of a channel finishes a message
 abbrev pub is_finishing : Call → Bool
 is_finishing (Finish now channel seq) = true
 is_finishing call = false

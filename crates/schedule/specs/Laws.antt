@@ -1,4 +1,4 @@
--- What holds of what a run prints.
+-- Proved facts about what a run prints.
 use Rattle.std.specs.Prelude.{◌≡◌, ℕ, true, List, Some, IsTrue}
 use Rattle.input_types.specs.StreamRule.{stream_state, is_well_formed}
 use Rattle.dispatch_history.specs.Effect.{Effect, past_of, stream}

@@ -1,4 +1,4 @@
--- What a part of a run makes of it, whatever it stood for before.
+-- How a part of a run changes the run, whatever the run stood for before.
 use Rattle.std.specs.Prelude.{◌≡◌, ℕ, ◌+◌, ◌-◌, ◌^◌, ◌≤◌, ◌<◌, false, List, Result, OnOk}
 use Rattle.dispatch_calls.specs.declared.call.Call.{Call}
 use Rattle.dispatch_history.specs.Effect.{Effect, past_of}
@@ -14,7 +14,7 @@ use Rattle.schedule.specs.Released.{KeepsUnfinished}
 use Rattle.schedule.specs.Run.{messages_in}
 use Rattle.schedule.specs.State.{ScheduleState, HasWith, ReadyWith, counted}
 
--- done or not, it loses nothing that was done: it comes to some calls more
+-- whether or not it succeeds, nothing is undone: the run has some calls more
 abbrev pub GoesOn : (old new : ScheduleState) → Type 0
 GoesOn old new = (es : List Effect) → ComesTo es old.dispatcher → ComesTo es new.dispatcher
 
@@ -59,16 +59,16 @@ abbrev pub Receives : {A E : Type 0} → Result A E → (channel : ℕ) → (old
 Receives result channel old new =
     (how : Lines) (plan : Plan) (es : List Effect) → HasWith how plan es old → OnOk result (HasWith how plan (extend plan.displays es (receives_of es channel)) new)
 
--- where it is done, the run has this round more
+-- if it succeeds, the run has this round more
 abbrev pub MakesRound : {A E : Type 0} → Result A E → Candidate → (old new : ScheduleState) → Type 0
 MakesRound result candidate old new =
     (how : Lines) (plan : Plan) (es : List Effect) → ReadyWith how plan es old → OnOk result (ReadyWith how plan (round plan es candidate) new)
 
--- where it is done, one call more is counted
+-- if it succeeds, one call more is counted
 abbrev pub CountsOne : {A E : Type 0} → Result A E → (old new : ScheduleState) → Type 0
 CountsOne result old new = OnOk result (new.calls ≡ counted (old.calls + 1))
 
--- where it is done, no fewer calls are counted
+-- if it succeeds, no fewer calls are counted
 abbrev pub CountsNoFewer : {A E : Type 0} → Result A E → (old new : ScheduleState) → Type 0
 CountsNoFewer result old new = OnOk result (old.calls ≤ new.calls)
 
@@ -81,7 +81,7 @@ pub record KeepsMessages (old new : ScheduleState) : Type 0 where
   pub gone : ReleasesNone old new
   pub more : GoesOnAt old new
 
--- where it is done, all messages that channels were sent are released and counted
+-- if it succeeds, all messages that channels were sent are released and counted
 abbrev pub CountsAll : {A E : Type 0} → Result A E → List Effect → (new : ScheduleState) → Type 0
 CountsAll result es new = OnOk result (new.messages ≡ counted (messages_in es))
 

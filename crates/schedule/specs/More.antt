@@ -1,4 +1,4 @@
--- What stays of a run, also where memory runs out on the way.
+-- What is kept of a run, even if memory runs out on the way.
 use Rattle.std.specs.Prelude.{List}
 use Rattle.dispatch_calls.specs.declared.call.Call.{Call}
 use Rattle.dispatch_history.specs.Effect.{Effect}

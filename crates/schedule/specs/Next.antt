@@ -12,7 +12,7 @@ use Rattle.schedule.specs.declared.plan.Channel.{Channel}
 use Rattle.schedule.specs.Planned.{channel_of}
 use Rattle.dispatch_history.specs.Ordered.{Candidate, sooner_of, all_finishes, due_tick, due_repeat, next_step, scripted}
 
--- the soonest so far against a candidate that may be there
+-- the sooner of the soonest so far and an optional candidate
 abbrev pub sooner_with : Option Candidate → Option Candidate → Option Candidate
 sooner_with best None = best
 sooner_with best (Some c) = sooner_of best c
@@ -34,7 +34,7 @@ abbrev pub finish_of : List Effect → ℕ → Option Channel → Option Candida
 finish_of es c None = None
 finish_of es c (Some p) = next_finish es c (channel_of p)
 
--- all that may be done next but for the next args, in the order that decides where moments agree
+-- everything that may be done next except the next args, in the order that decides at equal moments
 abbrev pub fore : Plan → List Effect → List Candidate
 fore plan es =
     all_finishes (past_of es) 1 plan.channels ++ due_tick (first_due es) ++ due_repeat (length (inbound (past_of es)) == 0) (repeat_due es)

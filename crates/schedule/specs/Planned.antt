@@ -30,7 +30,7 @@ plan_of r =
 abbrev pub IsStep : Step → Type 0
 IsStep s = is_scripted s.call ≡ 1
 
--- an owner that finishes a message no later than so long after it took it
+-- an owner that finishes a message at most 10^15 microseconds after it received it
 abbrev pub IsChannel : Channel → Type 0
 IsChannel c = c.finish_after ≤ 1000000000000000
 

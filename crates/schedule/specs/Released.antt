@@ -1,4 +1,4 @@
--- What channels were sent and released: its lines are written, and the dispatcher keeps it no more.
+-- What channels were sent and released: its lines are written, and the dispatcher no longer keeps it.
 use Rattle.std.specs.Prelude.{◌≡◌, ℕ, ◌≤◌, true, List, length, sum_by, None}
 use Rattle.dispatch_history.specs.History.{live, opened}
 use Rattle.dispatch_history.specs.Effect.{Effect, past_of, stream}

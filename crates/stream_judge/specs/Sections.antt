@@ -5,7 +5,7 @@ use Rattle.stream_text.specs.declared.stream_line.StreamLine.{StreamLine}
 use Rattle.stream_text.specs.declared.stream_line.StreamLine.TheVariants.{Channel, Message, End, Anr}
 use Rattle.stream_text.specs.StreamFile.{Event, Stream}
 
--- the messages of the open section behind a line, the newest first
+-- the messages of the open section after a line, newest first
 abbrev pub sent_after : List Sent → StreamLine → List Sent
 sent_after past (Channel id) = []
 sent_after past (Message m) = m ∷ past

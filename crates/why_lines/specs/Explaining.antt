@@ -17,7 +17,7 @@ pub record Explains (call : Call) (es : List Effect) (displays old new : List �
   pub stands : StandsFor (step displays call answer es) d
   pub text_is : new ≡ old ++ step_text displays (effect_of displays call answer (args_of call answer (inbound (past_of es))) es) es
 
--- The same of a dispatcher that matches a history except for released messages.
+-- The same for a dispatcher that matches a history except for released messages.
 pub record ExplainsAfter (call : Call) (es : List Effect) (displays old new : List ℕ) (d : Dispatching) : Type 0 where
   pub answer : Reply
   pub stands : IsAfter (step displays call answer es) d
@@ -28,7 +28,7 @@ abbrev pub ExplainsCall : {A E : Type 0} → Result A E → Call → (old new : 
 ExplainsCall result call old new before after =
     (es : List Effect) → IsAfter es before → OnOk result (ExplainsAfter call es before.displays old new after)
 
--- The answer says whether the call was made: it was behind Ok and AfterCall, and behind BeforeCall nothing changed.
+-- The answer says whether the call was made: it was if the answer is Ok or AfterCall; if it is BeforeCall, nothing changed.
 abbrev pub MakesAsSaid : {A : Type 0} → Result A OutOfMemory → Call → (old new : Dispatching) → Type 0
 MakesAsSaid (Ok done) call old new = StepsOn call old new
 MakesAsSaid (Err BeforeCall) call old new = new ≡ old

@@ -1,4 +1,4 @@
--- What is proved of the lines of a step. Each law is the clause of a function of its own.
+-- Proved facts about the lines of a step. Each law is the clause of a function of its own.
 use Rattle.std.specs.Prelude.{◌≡◌, ◌≤◌, ℕ, Bool, max, true, false, not, ◌&&◌, List, ◌∷◌, flat_map, slice_get, Option, Some}
 use Rattle.std.specs.List.{list_any}
 use Rattle.input_types.specs.declared.message.Args.{Args}

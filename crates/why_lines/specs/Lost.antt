@@ -10,7 +10,7 @@ use Rattle.why_text.specs.Lost.{ids_item, key_item}
 abbrev pub ids_in : ℕ → List ℕ
 ids_in set = ids_that (λ i. is_in i set)
 
--- the ids that are lost of the device d and of those behind it, a set for each
+-- the ids that are lost of device d and of those after it, a set for each
 abbrev pub ids_from : ℕ → List ℕ → List (List ℕ)
 ids_from d [] = []
 ids_from d (set ∷ sets) = ids_item d (ids_in set) ++ ids_from (suc d) sets
@@ -19,10 +19,10 @@ ids_from d (set ∷ sets) = ids_item d (ids_in set) ++ ids_from (suc d) sets
 abbrev pub items_of : List ℕ → List KeyArgs → List (List ℕ)
 items_of sets keys = ids_from 1 sets ++ map key_item keys
 
--- each item behind a space
+-- each item after a space
 abbrev pub behind_spaces : List (List ℕ) → List ℕ
 behind_spaces items = flat_map (λ a. codes " " ++ a) items
 
--- each number behind a comma
+-- each number after a comma
 abbrev pub behind_commas : List ℕ → List ℕ
 behind_commas ns = flat_map (λ n. codes "," ++ decimal n) ns

@@ -7,7 +7,7 @@ use Rattle.dispatch_history.specs.Queue.{args_of, inbound}
 use Rattle.dispatch_history.specs.Reply.{reply_to}
 use Rattle.why_text.specs.Lines.{call_words}
 
--- the lines of a pump after a history with these effects, answered as it is to be
+-- the lines of a pump after a history with these effects, with the required answer
 abbrev pub pump_words : List ℕ → ℕ → List Effect → List (List ℕ)
 pump_words displays now es =
     let answer = reply_to es (Pump now) in

@@ -4,7 +4,7 @@ use Rattle.dispatch_calls.specs.declared.reply.Reply.TheVariants.{Gone, NotSpy, 
 use Rattle.why_lines.specs.declared.lines.channels.PilferRefused.{PilferRefused}
 use Rattle.why_lines.specs.declared.lines.channels.PilferRefused.TheVariants.{Gone as IsGone, NotSpy as IsNotSpy, NothingHeld as HoldsNothing}
 
--- what the call is answered
+-- the reply to the call
 abbrev pub answer_of : PilferRefused → Reply
 answer_of IsGone = Gone
 answer_of IsNotSpy = NotSpy
