@@ -1,4 +1,4 @@
--- Steps that send something, in terms of what is kept.
+-- Steps that send windows something, by what is kept.
 use Rattle.std.specs.Prelude.{◌≡◌, ◌≤◌, ◌<◌, ◌+◌, ℕ, suc, Bool, true, false, not, ◌&&◌, List, [], slice_set, Option, Some, None, if◌then◌else◌}
 use Rattle.input_types.specs.declared.key.KeyMsg.{KeyMsg}
 use Rattle.window_snapshot.specs.declared.window.Window.{Window}
