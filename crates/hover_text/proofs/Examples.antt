@@ -1,5 +1,5 @@
 -- Worked examples: the text of a session and a mouse. Events and calls are newest first.
-use Rattle.std.specs.Prelude.{codes, ◌≡◌, ℕ, ℤ, pos, negsuc, true, List, [], ◌∷◌, Some, None, refl}
+use Rattle.std.specs.Prelude.{codes, ◌≡◌, ℕ, ℤ, pos, negsuc, true, false, List, [], ◌∷◌, Some, None, refl}
 use Rattle.std.specs.Fmt.{digits}
 use Rattle.input_types.specs.declared.axis.Rotation.{Rotation}
 use Rattle.input_types.specs.declared.axis.Rotation.TheVariants.{R0, R90}
@@ -14,6 +14,7 @@ use Rattle.session_plan.specs.declared.plan.Step.{Step}
 use Rattle.session_plan.specs.Plan.{ChannelData, PlanData}
 use Rattle.cursor_core.specs.declared.call.CursorCall.TheVariants.{Moved, Windows}
 use Rattle.stream_text.specs.Spelling.{channel_line}
+use Rattle.hover_text.specs.Laws.{are_in_order, mouse_motions}
 use Rattle.hover_text.specs.Lines.{end_line, message_line, place_text}
 use Rattle.hover_text.specs.Schedule.{calls_of}
 use Rattle.hover_text.specs.Screen.{screen_of}
@@ -77,6 +78,23 @@ pub steps_and_packets
     : calls_of (step 2000 (acts.Windows (left ∷ [])) ∷ step 2001 (acts.Windows []) ∷ []) (report 1900 ∷ event 1900 2 0 (pos 2) ∷ report 2000 ∷ event 500 2 0 (pos 1) ∷ [])
     ≡ Windows 2001 [] ∷ Moved 2000 (pos 2) (pos 0) ∷ Moved 2000 (pos 1) (pos 0) ∷ Windows 2000 (left ∷ []) ∷ []
 steps_and_packets = refl
+
+-- these calls are in order, and the motions of the packets are
+pub calls_rise
+    : are_in_order (calls_of (step 2000 (acts.Windows (left ∷ [])) ∷ step 2001 (acts.Windows []) ∷ []) (report 1900 ∷ event 1900 2 0 (pos 2) ∷ report 2000 ∷ event 500 2 0 (pos 1) ∷ []))
+    ≡ true
+calls_rise = refl
+
+pub motions_of_two_packets
+    : mouse_motions (report 1900 ∷ event 1900 2 0 (pos 2) ∷ report 2000 ∷ event 500 2 0 (pos 1) ∷ []) ≡ Moved 2000 (pos 2) (pos 0) ∷ Moved 2000 (pos 1) (pos 0) ∷ []
+motions_of_two_packets = refl
+
+-- a step behind a motion of its moment is not in order, and neither is an earlier call behind a later one
+pub step_behind_a_motion : are_in_order (Windows 2000 [] ∷ Moved 2000 (pos 1) (pos 0) ∷ []) ≡ false
+step_behind_a_motion = refl
+
+pub fallen_motion : are_in_order (Moved 1900 (pos 2) (pos 0) ∷ Moved 2000 (pos 1) (pos 0) ∷ []) ≡ false
+fallen_motion = refl
 
 -- a packet that moves nothing makes later ones as late as it is
 pub late_packets

@@ -1,3 +1,4 @@
 pub mod Running
 pub mod Examples
 pub mod Sections
+pub mod Ordering

@@ -4,3 +4,4 @@ pub mod State
 pub mod Running
 pub mod Lines
 pub mod Text
+pub mod Laws
