@@ -16,8 +16,8 @@
 //! end 2 3
 //! ```
 //!
-//! Steps of the session that show windows or remove a channel come before motions of the same time ([`laws`]); its other
-//! steps and its devices are ignored.
+//! Steps of the session that show windows or remove a channel come before motions of the same time ([`laws`]); its
+//! other steps and its devices are ignored.
 #![tactic(auto)]
 
 mod hover;
