@@ -1,5 +1,5 @@
 -- The focus of each display, from what was requested and from the channels that may have it.
-use Rattle.std.specs.Prelude.{ℕ, Bool, false, ◌==◌, List, [], ◌∷◌, slice_index_or, Option, Some, None, if◌then◌else◌}
+use Rattle.std.specs.Prelude.{ℕ, Bool, false, ◌==◌, List, [], ◌∷◌, slice_index_or, slice_set, Option, Some, None, if◌then◌else◌}
 use Rattle.std.specs.List.{list_any}
 use Rattle.window_snapshot.specs.Mask.{mask_has}
 
@@ -25,7 +25,7 @@ is_at (Some d) c = c == d
 abbrev pub is_focused : (ℕ → Option ℕ) → ℕ → Bool
 is_focused focus c = list_any (λ y. is_at (focus y) c) all_displays
 
--- for each display the channel last requested for it, if any; the display of the last request, 0 at first; and for
+-- for each display the channel last requested for it, if any; the display whose focus gets keys, 0 at first; and for
 -- each display the mask of the channels that may have its focus
 pub record FocusState : Type 0 where
   pub requested : List (Option ℕ)
@@ -40,6 +40,15 @@ may_by masks y c = mask_has (slice_index_or masks y 0) c
 abbrev pub focus_of : FocusState → ℕ → Option ℕ
 focus_of s y = focus_at (may_by s.focusable) (λ z. slice_index_or s.requested z None) y
 
--- the channel that keys go to, if there is one: the one that has the focus of the display of the last request
+-- the channel that keys go to, if there is one: the one that has the focus of the display whose focus gets keys
 abbrev pub target_of : FocusState → Option ℕ
 target_of s = focus_of s s.last
+
+-- a request takes keys to its display, or leaves them where they go
+abbrev pub keyed_after : (keys : Bool) → (display last : ℕ) → ℕ
+keyed_after keys display last = if keys then display else last
+
+-- a request of the focus of a display for a channel, or for none
+abbrev pub after_request : (display : ℕ) → (channel : Option ℕ) → (keys : Bool) → FocusState → FocusState
+after_request display channel keys s =
+    record { requested = slice_set s.requested display channel; last = keyed_after keys display s.last; focusable = s.focusable }

@@ -1,8 +1,9 @@
 //! Which window has the focus of each display, and to which of them keys go.
 //!
 //! The window last requested for a display has its focus, if it may have it there. Keys go to the focused window of the
-//! display of the last request. Here channel 2 is requested on display 0 while the windows of channels 1 and 2 are
-//! there, and then channel 3 on display 1. Then the window of channel 2 goes away and comes back:
+//! display of the last request that took them along, as each does here. Channel 2 is requested on display 0 while the
+//! windows of channels 1 and 2 are there, and then channel 3 on display 1. Then the window of channel 2 goes away and
+//! comes back:
 //!
 //! ```text
 //! windows [0b011, 0b100, 0, 0]      nobody is focused

@@ -1,6 +1,6 @@
 //! The focus of each display, and how it changes.
-ghost use Rattle.std.specs.Prelude.{◌≡◌, ◌<◌, ℕ, None, replicate, slice_set};
-ghost use Rattle.focus_resolver.specs.Resolver.{focus_if, focus_of, is_at, is_focused, target_of};
+ghost use Rattle.std.specs.Prelude.{◌≡◌, ◌<◌, ℕ, None, replicate};
+ghost use Rattle.focus_resolver.specs.Resolver.{after_request, focus_if, focus_of, is_at, is_focused, target_of};
 ghost use Rattle.focus_resolver.specs.Changes.{IsOnlyIn};
 ghost use Rattle.window_snapshot.specs.Mask.{mask_has};
 
@@ -28,8 +28,8 @@ pub struct Change {
 }
 
 /// Which channel has the focus of each display, and to which of them keys go. The focus of a display is at the
-/// channel last requested for it, if that may have it; keys go to the focus of the display of the last request, or of
-/// display 0 before there was one.
+/// channel last requested for it, if that may have it; keys go to the focus of the display of the last request that
+/// took them along, or of display 0 before there was one.
 #[derive(Clone, Copy, Debug)]
 pub struct Focus {
     requested: [Option<u32>; 4],
@@ -100,21 +100,19 @@ impl Focus {
         focus_if(self.requested[place], self.focusable.masks[place])
     }
 
-    /// Requests the focus of a display for a channel, or for none. Any number may be requested.
-    pub fn request(&mut self, display: DisplayId, channel: Option<u32>) -> Change
-        ensures state { self.new
-            ≡ record {
-              requested = slice_set self.old.requested display channel;
-              last = display;
-              focusable = self.old.focusable;
-            } }
+    /// Requests the focus of a display for a channel, or for none. Any number may be requested. If `keys` is set, keys
+    /// go to the focus of this display from now on.
+    pub fn request(&mut self, display: DisplayId, channel: Option<u32>, keys: bool) -> Change
+        ensures state { self.new ≡ after_request display channel keys self.old }
         ensures lost { IsOnlyIn result.lost (is_focused (focus_of self.old)) (is_focused (focus_of self.new)) }
         ensures gained { IsOnlyIn result.gained (is_focused (focus_of self.new)) (is_focused (focus_of self.old)) }
         ensures target { result.target ≡ target_of self.new }
     {
         let before = self.focused();
         self.requested[usize::from(display.get())] = channel;
-        self.last = display;
+        if keys {
+            self.last = display;
+        }
         self.since(before)
     }
 
