@@ -7,7 +7,7 @@ use Rattle.dispatch_calls.specs.declared.call.Call.TheVariants.{Open, Windows, F
 abbrev pub moment_of : Call → ℕ
 moment_of (Open terms) = 0
 moment_of (Windows now snapshot) = now
-moment_of (FocusOn now display channel) = now
+moment_of (FocusOn now display channel keys) = now
 moment_of (Notify now args) = now
 moment_of (Pump now) = now
 moment_of (Tick now) = now

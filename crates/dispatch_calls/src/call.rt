@@ -19,12 +19,13 @@ pub enum Call {
         now: Moment,
         snapshot: Snapshot,
     },
-    /// Requests the focus of a display for a channel, or for none. Any number may be requested. Keys go to the
-    /// focused window of the display of the last request.
+    /// Requests the focus of a display for a channel, or for none. Any number may be requested.
     FocusOn {
         now: Moment,
         display: DisplayId,
         channel: Option<u32>,
+        /// Whether keys go to the focused window of this display from now on. If not, they go where they went.
+        keys: bool,
     },
     /// Queues args of a device behind those that wait.
     Notify {

@@ -154,6 +154,7 @@ fn call_of_two(word: &[u8], a: u64, b: u64) -> Option<Call> {
             now,
             display: display(b)?,
             channel: None,
+            keys: true,
         }),
         b"reset" => Some(Call::Notify {
             now,
@@ -175,6 +176,7 @@ fn call_of_three(word: &[u8], a: u64, b: u64, c: u64) -> Option<Call> {
             now,
             display: display(b)?,
             channel: Some(channel(c)?),
+            keys: true,
         }),
         b"finish" => Some(Call::Finish {
             now,

@@ -74,7 +74,7 @@ sound_of entries d n m r =
 pub gone_of : (ds : List ℕ) (h : History) (call : Call) → AnswersGone h call (reply ds h call)
 gone_of ds h (Open terms) = tt
 gone_of ds h (Windows now snapshot) = tt
-gone_of ds h (FocusOn now display channel) = tt
+gone_of ds h (FocusOn now display channel keys) = tt
 gone_of ds h (Notify now args) = tt
 gone_of ds h (Pump now) = tt
 gone_of ds h (Tick now) = tt
@@ -113,7 +113,7 @@ may_count ds items len capacity spare is r some =
 pub one_in : (call : Call) → args_in call ≤ 1
 one_in (Open terms) = omega arith
 one_in (Windows now snapshot) = omega arith
-one_in (FocusOn now display channel) = omega arith
+one_in (FocusOn now display channel keys) = omega arith
 one_in (Notify now args) = omega arith
 one_in (Pump now) = omega arith
 one_in (Tick now) = omega arith

@@ -155,7 +155,7 @@ step_facts ds (Remove now c) answer h d l r = still_facts ds (Remove now c) answ
 step_facts ds (Windows now shown) answer h d l r =
     still_facts ds (Windows now shown) answer (effects ds h) d (record { rises = tt; down = λ e ids. refl; last_is = λ e ps. refl })
 step_facts ds (Open terms) answer h d l r = still_facts ds (Open terms) answer (effects ds h) d still_rests
-step_facts ds (FocusOn now y c) answer h d l r = still_facts ds (FocusOn now y c) answer (effects ds h) d still_rests
+step_facts ds (FocusOn now y c keys) answer h d l r = still_facts ds (FocusOn now y c keys) answer (effects ds h) d still_rests
 step_facts ds (Notify now a) answer h d l r = still_facts ds (Notify now a) answer (effects ds h) d still_rests
 step_facts ds (Receive c) answer h d l r = still_facts ds (Receive c) answer (effects ds h) d still_rests
 step_facts ds (Finish now c n) answer h d l r = still_facts ds (Finish now c n) answer (effects ds h) d still_rests

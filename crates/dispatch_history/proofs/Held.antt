@@ -10,7 +10,7 @@ use Rattle.dispatch_history.proofs.Worked.{usual, window, key, focused, keyed, o
 -- A key goes down in the focused window and stays down.
 abbrev held_down : List Call
 held_down =
-    Open usual ∷ Windows 0 (window 1 0 0 0 1080 2400 ∷ []) ∷ FocusOn 0 0 (Some 1) ∷ Notify 1000000 (KeyOfDevice (key 115 24 true)) ∷ []
+    Open usual ∷ Windows 0 (window 1 0 0 0 1080 2400 ∷ []) ∷ FocusOn 0 0 (Some 1) true ∷ Notify 1000000 (KeyOfDevice (key 115 24 true)) ∷ []
     ++ Pump 1000000 ∷ Pump 1499999 ∷ Pump 1500000 ∷ Pump 1549999 ∷ Pump 1550000 ∷ []
 
 a_held_key_is_repeated_at_its_moments :
@@ -25,7 +25,7 @@ each_repeat_has_the_next_number = refl
 -- The same key and the same pumps, where the channel was opened with delays of its own, and where it gets no repeats.
 abbrev held_with : Option Repeats → List Call
 held_with repeats =
-    Open (record { limit = 5000000; repeats = repeats }) ∷ Windows 0 (window 1 0 0 0 1080 2400 ∷ []) ∷ FocusOn 0 0 (Some 1) ∷ []
+    Open (record { limit = 5000000; repeats = repeats }) ∷ Windows 0 (window 1 0 0 0 1080 2400 ∷ []) ∷ FocusOn 0 0 (Some 1) true ∷ []
     ++ Notify 1000000 (KeyOfDevice (key 115 24 true)) ∷ Pump 1000000 ∷ Pump 1500000 ∷ Pump 1660000 ∷ Pump 1699999 ∷ Pump 1700000 ∷ []
 
 each_channel_has_its_own_delays :
@@ -41,8 +41,8 @@ a_channel_without_repeats_is_sent_the_down_alone = refl
 -- A key that is not in the layout goes to the window that has the focus now.
 abbrev focus_moves : List Call
 focus_moves =
-    open_two ++ Windows 0 (window 1 0 0 0 540 2400 ∷ window 2 0 540 0 1080 2400 ∷ []) ∷ FocusOn 0 0 (Some 1) ∷ []
-    ++ Notify 1000000 (KeyOfDevice (key 115 24 true)) ∷ Pump 1000000 ∷ FocusOn 1200000 0 (Some 2) ∷ []
+    open_two ++ Windows 0 (window 1 0 0 0 540 2400 ∷ window 2 0 540 0 1080 2400 ∷ []) ∷ FocusOn 0 0 (Some 1) true ∷ []
+    ++ Notify 1000000 (KeyOfDevice (key 115 24 true)) ∷ Pump 1000000 ∷ FocusOn 1200000 0 (Some 2) true ∷ []
     ++ Notify 1300000 (KeyOfDevice (key 115 24 false)) ∷ Pump 1300000 ∷ Notify 1400000 (KeyOfDevice (key 999 0 true)) ∷ Pump 1400000 ∷ []
 
 the_window_that_loses_the_focus_loses_its_keys_first :

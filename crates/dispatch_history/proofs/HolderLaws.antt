@@ -181,11 +181,11 @@ holders ds ((Open terms, answer) ∷ h) w d i x =
     let b = only_kept (mark (scene ds es) NoOp) (marks es) w d i refl x in
     let q = holders ds h w d i b.0 in
     remains ds (effect_of ds (Open terms) answer None es) es w d q.0 (open_live terms answer w (live (past_of es) w) (was_live es w q.0)) refl q.1
-holders ds ((FocusOn now y c, answer) ∷ h) w d i x =
+holders ds ((FocusOn now y c keys, answer) ∷ h) w d i x =
     let es = effects ds h in
     let b = only_kept (mark (scene ds es) NoOp) (marks es) w d i refl x in
     let q = holders ds h w d i b.0 in
-    remains ds (effect_of ds (FocusOn now y c) answer None es) es w d q.0 (was_live es w q.0) refl q.1
+    remains ds (effect_of ds (FocusOn now y c keys) answer None es) es w d q.0 (was_live es w q.0) refl q.1
 holders ds ((Notify now a, answer) ∷ h) w d i x =
     let es = effects ds h in
     let b = only_kept (mark (scene ds es) NoOp) (marks es) w d i refl x in

@@ -131,7 +131,7 @@ no_keys ds ((call, answer) ∷ h) w n = by_call call (subst (λ past. live ((cal
         (dead_gets (is_target (past_of es) w) (live (past_of es) w) (unresponsive es w) q) (gone (Pump now) q)
     by_call (Open terms) q = quiet (Open terms) q
     by_call (Windows now shown) q = quiet (Windows now shown) q
-    by_call (FocusOn now y c) q = quiet (FocusOn now y c) q
+    by_call (FocusOn now y c keys) q = quiet (FocusOn now y c keys) q
     by_call (Notify now a) q = quiet (Notify now a) q
     by_call (Tick now) q = quiet (Tick now) q
     by_call (Receive c) q = quiet (Receive c) q
@@ -190,7 +190,7 @@ step_knows ds call answer h w d s l n before =
         (λ y. due_held ds h w d s (max now (clock (past_of es))) m.1 y) before
     by_call (Open terms) m q = quiet (Open terms)
     by_call (Windows now shown) m q = quiet (Windows now shown)
-    by_call (FocusOn now y c) m q = quiet (FocusOn now y c)
+    by_call (FocusOn now y c keys) m q = quiet (FocusOn now y c keys)
     by_call (Notify now a) m q = quiet (Notify now a)
     by_call (Tick now) m q = quiet (Tick now)
     by_call (Receive c) m q = quiet (Receive c)

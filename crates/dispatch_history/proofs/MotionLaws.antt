@@ -49,7 +49,7 @@ removes_other ws (Pilfer now c d) Done args w before e = tt
 removes_other ws (Pilfer now c d) _ args w before e = tt
 removes_other ws (Windows now shown) answer args w before e = tt
 removes_other ws (Open terms) answer args w before e = tt
-removes_other ws (FocusOn now y c) answer args w before e = tt
+removes_other ws (FocusOn now y c keys) answer args w before e = tt
 removes_other ws (Notify now a) answer args w before e = tt
 removes_other ws (Receive c) answer args w before e = tt
 removes_other ws (Finish now c n) answer args w before e = tt
@@ -142,7 +142,7 @@ new_channel ds (Open terms) answer h w l n e =
     (subst (λ past. answer ≡ cond (nat_lt (opened past) 64) (Opened (opened past + 1)) Full) (effects_law ds h) l.0) e
 new_channel ds (Remove now k) answer h w l n e = absurd (both_ways (live h w) n (removed_live now k w answer (live h w) e))
 new_channel ds (Windows now shown) answer h w l n e = absurd (both_ways (live h w) n e)
-new_channel ds (FocusOn now y c) answer h w l n e = absurd (both_ways (live h w) n e)
+new_channel ds (FocusOn now y c keys) answer h w l n e = absurd (both_ways (live h w) n e)
 new_channel ds (Notify now a) answer h w l n e = absurd (both_ways (live h w) n e)
 new_channel ds (Pump now) answer h w l n e = absurd (both_ways (live h w) n e)
 new_channel ds (Tick now) answer h w l n e = absurd (both_ways (live h w) n e)

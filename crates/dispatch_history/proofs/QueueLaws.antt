@@ -78,7 +78,7 @@ stands ds ((Notify now a, answer) ∷ h) l =
     (stands ds h l.1) l.0
 stands ds ((Open terms, answer) ∷ h) l = stands ds h l.1
 stands ds ((Windows now shown, answer) ∷ h) l = stands ds h l.1
-stands ds ((FocusOn now y channel, answer) ∷ h) l = stands ds h l.1
+stands ds ((FocusOn now y channel keys, answer) ∷ h) l = stands ds h l.1
 stands ds ((Tick now, answer) ∷ h) l = stands ds h l.1
 stands ds ((Receive channel, answer) ∷ h) l = stands ds h l.1
 stands ds ((Finish now channel seq, answer) ∷ h) l = stands ds h l.1
@@ -129,7 +129,7 @@ keeps ds ((Notify now a, answer) ∷ h) l d =
 keeps ds ((Pump now, answer) ∷ h) l d = keeps ds h l.1 d
 keeps ds ((Open terms, answer) ∷ h) l d = keeps ds h l.1 d
 keeps ds ((Windows now shown, answer) ∷ h) l d = keeps ds h l.1 d
-keeps ds ((FocusOn now y channel, answer) ∷ h) l d = keeps ds h l.1 d
+keeps ds ((FocusOn now y channel keys, answer) ∷ h) l d = keeps ds h l.1 d
 keeps ds ((Tick now, answer) ∷ h) l d = keeps ds h l.1 d
 keeps ds ((Receive channel, answer) ∷ h) l d = keeps ds h l.1 d
 keeps ds ((Finish now channel seq, answer) ∷ h) l d = keeps ds h l.1 d

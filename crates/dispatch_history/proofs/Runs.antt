@@ -65,8 +65,8 @@ focus_moves =
       displays = one_display;
       channels = by_default ∷ by_default ∷ [];
       steps =
-          scripted (Windows 0 (window 1 0 0 0 540 2400 ∷ window 2 0 540 0 1080 2400 ∷ [])) ∷ scripted (FocusOn 0 0 (Some 1))
-          ∷ scripted (FocusOn 1200000 0 (Some 2)) ∷ [];
+          scripted (Windows 0 (window 1 0 0 0 540 2400 ∷ window 2 0 540 0 1080 2400 ∷ [])) ∷ scripted (FocusOn 0 0 (Some 1) true)
+          ∷ scripted (FocusOn 1200000 0 (Some 2) true) ∷ [];
       cooked = pressed 1000000 115 24 true ∷ pressed 1300000 115 24 false ∷ pressed 1400000 999 0 true ∷ [];
       until = 0;
     }

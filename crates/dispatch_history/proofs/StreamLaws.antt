@@ -106,7 +106,7 @@ live_law ds ((Open terms, answer) ∷ h) c l e =
     (λ b. live_law ds h c l.1 b) e
 live_law ds ((Remove now k, answer) ∷ h) c l e = live_law ds h c l.1 (removed_live now k c answer (live h c) e)
 live_law ds ((Windows now shown, answer) ∷ h) c l e = live_law ds h c l.1 e
-live_law ds ((FocusOn now y channel, answer) ∷ h) c l e = live_law ds h c l.1 e
+live_law ds ((FocusOn now y channel keys, answer) ∷ h) c l e = live_law ds h c l.1 e
 live_law ds ((Notify now a, answer) ∷ h) c l e = live_law ds h c l.1 e
 live_law ds ((Pump now, answer) ∷ h) c l e = live_law ds h c l.1 e
 live_law ds ((Tick now, answer) ∷ h) c l e = live_law ds h c l.1 e

@@ -28,7 +28,7 @@ terms_stay ds (Open terms) answer h c l le =
     opened_keeps (opened h) c terms answer (terms_of h c)
     (subst (λ past. answer ≡ cond (nat_lt (opened past) 64) (Opened (opened past + 1)) Full) (effects_law ds h) l.0) le
 terms_stay ds (Windows now shown) answer h c l le = refl
-terms_stay ds (FocusOn now y w) answer h c l le = refl
+terms_stay ds (FocusOn now y w keys) answer h c l le = refl
 terms_stay ds (Notify now a) answer h c l le = refl
 terms_stay ds (Pump now) answer h c l le = refl
 terms_stay ds (Tick now) answer h c l le = refl

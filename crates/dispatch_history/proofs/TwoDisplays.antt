@@ -34,8 +34,8 @@ says_2 seq now action ps = says seq now (of 2 (motion action 0 ps))
 -- Both displays have their focus. Keys follow the last request.
 abbrev keys_follow : List Call
 keys_follow =
-    open_two ++ Windows 0 (a ∷ b ∷ []) ∷ FocusOn 0 0 (Some 1) ∷ FocusOn 0 1 (Some 2) ∷ [] ++ pressed 1000000 true
-    ++ FocusOn 1200000 0 (Some 1) ∷ [] ++ pressed 1300000 false ++ pressed 1400000 true
+    open_two ++ Windows 0 (a ∷ b ∷ []) ∷ FocusOn 0 0 (Some 1) true ∷ FocusOn 0 1 (Some 2) true ∷ [] ++ pressed 1000000 true
+    ++ FocusOn 1200000 0 (Some 1) true ∷ [] ++ pressed 1300000 false ++ pressed 1400000 true
 
 the_display_that_is_requested_again_gets_the_keys :
     stream_on two_displays keys_follow 1 ≡ focused 1 0 true ∷ keyed 2 1400000 (volume true) 0 0 ∷ []
@@ -50,7 +50,7 @@ the_other_one_keeps_its_focus_and_loses_its_keys = refl
 -- no window.
 abbrev keys_to_nobody : List Call
 keys_to_nobody =
-    open_two ++ Windows 0 (a ∷ b ∷ []) ∷ FocusOn 0 0 (Some 1) ∷ [] ++ pressed 1000000 true ++ FocusOn 1200000 1 None ∷ []
+    open_two ++ Windows 0 (a ∷ b ∷ []) ∷ FocusOn 0 0 (Some 1) true ∷ [] ++ pressed 1000000 true ++ FocusOn 1200000 1 None true ∷ []
     ++ pressed 1300000 false ++ pressed 1400000 true
 
 held_keys_are_cancelled_although_the_focus_stays :
@@ -58,10 +58,39 @@ held_keys_are_cancelled_although_the_focus_stays :
     ≡ focused 1 0 true ∷ keyed 2 1000000 (volume true) 0 0 ∷ keyed 3 1200000 (volume false) 0x20 0 ∷ []
 held_keys_are_cancelled_although_the_focus_stays = refl
 
+-- A request that leaves keys where they go: the window on display 1 loses the focus there, and the window that holds the
+-- key on display 0 is sent nothing for it, and the next key.
+abbrev keys_stay : List Call
+keys_stay =
+    open_two ++ Windows 0 (a ∷ b ∷ []) ∷ FocusOn 0 1 (Some 2) true ∷ FocusOn 0 0 (Some 1) true ∷ [] ++ pressed 1000000 true
+    ++ FocusOn 1200000 1 None false ∷ [] ++ pressed 1300000 false ++ pressed 1400000 true
+
+the_focus_is_withdrawn : stream_on two_displays keys_stay 2 ≡ focused 1 0 true ∷ focused 2 1200000 false ∷ []
+the_focus_is_withdrawn = refl
+
+and_the_key_target_keeps_its_keys :
+    stream_on two_displays keys_stay 1
+    ≡ focused 1 0 true ∷ keyed 2 1000000 (volume true) 0 0 ∷ keyed 3 1300000 (volume false) 0 0 ∷ keyed 4 1400000 (volume true) 0 0 ∷ []
+and_the_key_target_keeps_its_keys = refl
+
+-- It loses them if its own focus is withdrawn, and keys go to no window.
+abbrev target_withdrawn : List Call
+target_withdrawn =
+    open_two ++ Windows 0 (a ∷ b ∷ []) ∷ FocusOn 0 1 (Some 2) true ∷ FocusOn 0 0 (Some 1) true ∷ [] ++ pressed 1000000 true
+    ++ FocusOn 1200000 0 None false ∷ [] ++ pressed 1300000 false ++ pressed 1400000 true
+
+a_target_whose_focus_is_withdrawn_loses_its_keys :
+    stream_on two_displays target_withdrawn 1
+    ≡ focused 1 0 true ∷ keyed 2 1000000 (volume true) 0 0 ∷ keyed 3 1200000 (volume false) 0x20 0 ∷ focused 4 1200000 false ∷ []
+a_target_whose_focus_is_withdrawn_loses_its_keys = refl
+
+and_keys_go_to_nobody : stream_on two_displays target_withdrawn 2 ≡ focused 1 0 true ∷ []
+and_keys_go_to_nobody = refl
+
 -- The focus of display 1 is requested while nothing is shown there. Then the window comes.
 abbrev requested_early : List Call
 requested_early =
-    open_two ++ Windows 0 (a ∷ []) ∷ FocusOn 1000 1 (Some 2) ∷ [] ++ pressed 2000 true ++ Windows 3000 (a ∷ b ∷ []) ∷ []
+    open_two ++ Windows 0 (a ∷ []) ∷ FocusOn 1000 1 (Some 2) true ∷ [] ++ pressed 2000 true ++ Windows 3000 (a ∷ b ∷ []) ∷ []
     ++ pressed 4000 false ++ pressed 5000 true
 
 a_window_that_comes_where_it_was_requested_is_focused :
@@ -74,7 +103,7 @@ and_the_window_on_the_first_display_is_sent_nothing = refl
 -- A focused window moves from display 0 to display 1 in the middle of a gesture.
 abbrev moves_over : List Call
 moves_over =
-    Open usual ∷ Windows 0 (a ∷ []) ∷ FocusOn 0 0 (Some 1) ∷ [] ++ pressed 1000 true ++ moved 2000 Down 0 (at 0 540 1200 ∷ [])
+    Open usual ∷ Windows 0 (a ∷ []) ∷ FocusOn 0 0 (Some 1) true ∷ [] ++ pressed 1000 true ++ moved 2000 Down 0 (at 0 540 1200 ∷ [])
     ++ Windows 3000 (on 1 a ∷ []) ∷ [] ++ moved 4000 Move 0 (at 0 540 1200 ∷ []) ++ moved 5000 Up 0 (at 0 540 1200 ∷ [])
     ++ pressed 6000 false ++ moved_2 7000 Down (at 0 10 20 ∷ [])
 
@@ -88,7 +117,7 @@ it_loses_its_pointer_and_the_focus_there_and_does_not_get_it_here = refl
 -- It was requested on both displays: it is focused before and after, and is sent nothing about it.
 abbrev requested_on_both : List Call
 requested_on_both =
-    Open usual ∷ Windows 0 (a ∷ []) ∷ FocusOn 0 1 (Some 1) ∷ FocusOn 0 0 (Some 1) ∷ Windows 3000 (on 1 a ∷ []) ∷ []
+    Open usual ∷ Windows 0 (a ∷ []) ∷ FocusOn 0 1 (Some 1) true ∷ FocusOn 0 0 (Some 1) true ∷ Windows 3000 (on 1 a ∷ []) ∷ []
 
 a_window_that_is_focused_on_the_one_and_then_on_the_other_is_sent_once :
     stream_on two_displays requested_on_both 1 ≡ focused 1 0 true ∷ []

@@ -13,14 +13,14 @@ use Rattle.dispatch_history.proofs.Worked.{usual, window, of, at, motion, dispat
 -- devices 1 and 2 touch the window, which is focused while the key is held
 abbrev while_held : List Call
 while_held =
-    Open usual ∷ Windows 0 (window 1 0 0 0 1080 2400 ∷ []) ∷ FocusOn 0 0 (Some 1) ∷ []
+    Open usual ∷ Windows 0 (window 1 0 0 0 1080 2400 ∷ []) ∷ FocusOn 0 0 (Some 1) true ∷ []
     ++ moved 1000 Down 0 (at 0 100 200 ∷ []) ++ dispatch 2000 (KeyOfDevice (key 30 29 true))
     ++ dispatch 3000 (MotionArgs (of 2 (motion Down 0 (at 0 300 400 ∷ []))))
     ++ moved 4000 PointerDown 1 (at 0 100 200 ∷ at 1 500 600 ∷ []) ++ Pump 502000 ∷ []
 
 -- then the other device lifts its finger, and the focus is requested for none
 abbrev and_then : List Call
-and_then = while_held ++ dispatch 503000 (MotionArgs (of 2 (motion Up 0 (at 0 300 400 ∷ [])))) ++ FocusOn 504000 0 None ∷ []
+and_then = while_held ++ dispatch 503000 (MotionArgs (of 2 (motion Up 0 (at 0 300 400 ∷ [])))) ++ FocusOn 504000 0 None true ∷ []
 
 its_stream :
     stream_of and_then 1

@@ -10,7 +10,7 @@ use Rattle.dispatch_history.specs.History.{History, live, snapshot}
 
 -- a step may request the focus of a display for another channel, or for none
 abbrev pub requested_after : Call → ℕ → Option ℕ → Option ℕ
-requested_after (FocusOn now display channel) y before = if y == display then channel else before
+requested_after (FocusOn now display channel keys) y before = if y == display then channel else before
 requested_after call y before = before
 
 -- the channel for which the focus of display y was requested last
@@ -18,12 +18,12 @@ abbrev pub requested : History → ℕ → Option ℕ
 requested [] y = None
 requested (e ∷ h) y = requested_after e.0 y (requested h y)
 
--- a request makes its display the one requested last
+-- a request takes keys to its display, or leaves them where they go
 abbrev pub asked_after : Call → ℕ → ℕ
-asked_after (FocusOn now display channel) before = display
+asked_after (FocusOn now display channel keys) before = if keys then display else before
 asked_after call before = before
 
--- the display of the last focus request; 0 before any request
+-- the display of the last request that took keys along; 0 before any
 abbrev pub asked : History → ℕ
 asked [] = 0
 asked (e ∷ h) = asked_after e.0 (asked h)
@@ -40,7 +40,7 @@ focus h y = focus_at (may_focus h) (requested h) y
 abbrev pub has_focus : History → ℕ → Bool
 has_focus h w = is_focused (focus h) w
 
--- the key target, if there is one: the window that has the focus of the display of the last request
+-- the key target, if there is one: the window that has the focus of the display to which keys were last taken
 abbrev pub key_target : History → Option ℕ
 key_target h = focus h (asked h)
 

@@ -23,7 +23,7 @@ pub record Candidate : Type 0 where
 -- a call that a script makes
 abbrev pub is_scripted : Call → ℕ
 is_scripted (Windows now snapshot) = 1
-is_scripted (FocusOn now display channel) = 1
+is_scripted (FocusOn now display channel keys) = 1
 is_scripted (Pilfer now channel device) = 1
 is_scripted (Remove now channel) = 1
 is_scripted call = 0

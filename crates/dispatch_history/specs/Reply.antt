@@ -77,7 +77,7 @@ pilfer_reply es c d =
 abbrev pub reply_to : List Effect → Call → Reply
 reply_to es (Open terms) = open_reply (opened (past_of es))
 reply_to es (Windows now shown) = Done
-reply_to es (FocusOn now display channel) = Done
+reply_to es (FocusOn now display channel keys) = Done
 reply_to es (Notify now args) = notify_reply (down_on (past_of es) (device_of args)) args
 reply_to es (Pump now) = pump_reply (inbound (past_of es)) (repeat_due es) (max now (clock (past_of es)))
 reply_to es (Tick now) = Named (mask_of (named es now))

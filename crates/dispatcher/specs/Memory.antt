@@ -20,7 +20,7 @@ abbrev pub IsCalm : List Effect → Call → Type 0
 IsCalm es (Receive channel) = Unit {0}
 IsCalm es (Finish now channel seq) = Unit {0}
 IsCalm es (Remove now channel) = Unit {0}
-IsCalm es (FocusOn now display channel) = SameFocus (past_of es) ((FocusOn now display channel, Done) ∷ past_of es)
+IsCalm es (FocusOn now display channel keys) = SameFocus (past_of es) ((FocusOn now display channel keys, Done) ∷ past_of es)
 IsCalm es (Tick now) = named es now ≡ []
 IsCalm es (Pump now) = reply_to es (Pump now) ≡ Idle
 IsCalm es call = ⊥

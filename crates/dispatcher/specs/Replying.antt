@@ -32,7 +32,7 @@ MayHand es k call = Unit {0}
 abbrev pub reply_by : Kept → Call → Reply
 reply_by k (Open terms) = open_reply k.delivery.count
 reply_by k (Windows now shown) = Done
-reply_by k (FocusOn now display channel) = Done
+reply_by k (FocusOn now display channel keys) = Done
 reply_by k (Notify now args) = notify_reply (state_at k.queue.down (device_of args)) args
 reply_by k (Pump now) = pump_reply k.queue.waiting (due_again k) (max now k.queue.clock)
 reply_by k (Tick now) = Named (mask_of (late_by k.delivery (max now k.queue.clock)))

@@ -185,8 +185,8 @@ pub record OtherSteps (displays : List ℕ) (es : List Effect) (k : Kept) : Type
       (now watchers mask : ℕ) (next : List Window) → ((c : ℕ) → mask_has mask c ≡ (is_channel c && stays k.shown.windows next c))
       → IsStepIn (scene displays es) k.touches (Unnamed mask) None watchers (step_at (Windows now next) Done es)
   pub focuses :
-      (now watchers display : ℕ) (channel : Option ℕ)
-      → IsStepIn (scene displays es) k.touches NoOp None watchers (step_at (FocusOn now display channel) Done es)
+      (now watchers display : ℕ) (channel : Option ℕ) (keys : Bool)
+      → IsStepIn (scene displays es) k.touches NoOp None watchers (step_at (FocusOn now display channel keys) Done es)
   pub opens :
       (terms : Terms) (number watchers : ℕ) → IsStepIn (scene displays es) k.touches NoOp None watchers (step_at (Open terms) (Opened number) es)
   pub ticks :

@@ -1,10 +1,10 @@
 -- Steps that send windows something, by what is kept.
-use Rattle.std.specs.Prelude.{◌≡◌, ◌≤◌, ◌<◌, ◌+◌, ℕ, suc, Bool, true, false, not, ◌&&◌, List, [], slice_set, Option, Some, None, if◌then◌else◌}
+use Rattle.std.specs.Prelude.{◌≡◌, ◌≤◌, ◌<◌, ◌+◌, ℕ, suc, Bool, true, false, not, ◌&&◌, List, [], Option, Some, None, if◌then◌else◌}
 use Rattle.input_types.specs.declared.key.KeyMsg.{KeyMsg}
 use Rattle.window_snapshot.specs.declared.window.Window.{Window}
 use Rattle.window_snapshot.specs.Mask.{mask_has, mask_with}
 use Rattle.window_snapshot.specs.Named.{is_focusable_on}
-use Rattle.focus_resolver.specs.Resolver.{FocusState, may_by, is_at, is_focused, focus_of, target_of}
+use Rattle.focus_resolver.specs.Resolver.{FocusState, after_request, may_by, is_at, is_focused, focus_of, target_of}
 use Rattle.key_repeat.specs.Due.{Sent}
 use Rattle.dispatcher.specs.InputChannel.State.{opened_with}
 use Rattle.dispatcher.specs.CancelSynthesis.Tracked.{pointers_of}
@@ -44,8 +44,8 @@ Refocuses windows alive old new =
 
 -- the focus after a step, by the windows that are shown and the channels that are live then
 abbrev pub FocusGoes : Call → List Window → (alive : ℕ) → (old new : FocusState) → Type 0
-FocusGoes (FocusOn now display channel) windows alive old new =
-    (display < 4) × (new ≡ record { requested = slice_set old.requested display channel; last = display; focusable = old.focusable })
+FocusGoes (FocusOn now display channel keys) windows alive old new =
+    (display < 4) × (new ≡ after_request display channel keys old)
 FocusGoes (Open terms) windows alive old new = Refocuses windows alive old new
 FocusGoes (Windows now shown) windows alive old new = Refocuses windows alive old new
 FocusGoes (Remove now c) windows alive old new = Refocuses windows alive old new
@@ -90,7 +90,7 @@ pub record GoesRound (call : Call) (answer : Reply) (r : Round) (alive : ℕ) (k
 -- the steps that may send something, except those that open a channel
 abbrev pub is_sending : Call → Reply → Bool
 is_sending (Windows now shown) Done = true
-is_sending (FocusOn now display channel) Done = true
+is_sending (FocusOn now display channel keys) Done = true
 is_sending (Pump now) Dispatched = true
 is_sending (Pump now) Repeated = true
 is_sending (Tick now) (Named mask) = true

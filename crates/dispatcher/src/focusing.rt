@@ -89,22 +89,23 @@ pub(crate) fn show(
     Ok(Reply::Done)
 }
 
-/// Requests the focus of a display for a channel, or for none.
+/// Requests the focus of a display for a channel, or for none, and takes keys along if it is to.
 pub(crate) fn request(
     routing: &mut Routing,
     display: DisplayId,
     channel: Option<u32>,
+    keys: bool,
     place: u64,
     clock: Moment,
 ) -> Result<Reply, AllocError>
     requires { IsTimely clock routing.old.channels }
     ensures ok { IfOk result
-        (λ answer. Goes (λ now. FocusOn now display channel) answer place clock routing.old routing.new) }
+        (λ answer. Goes (λ now. FocusOn now display channel keys) answer place clock routing.old routing.new) }
     ensures err { OnErr result (SameButRoom routing.old routing.new) }
-    ensures calm { (display < 4 → LeavesFocus display channel routing.old.focus) → IsOk result }
+    ensures calm { (display < 4 → LeavesFocus display channel keys routing.old.focus) → IsOk result }
 {
     let mut focus = routing.focus;
-    let change = focus.request(display, channel);
+    let change = focus.request(display, channel, keys);
     // Read only for its clause: a display has one of the numbers 0 to 3, which contracts cannot see from the type.
     let _number = display.get();
     refocus(routing, Mark::NoOp, &change, place, clock)?;

@@ -25,7 +25,7 @@ use Rattle.given_run.specs.State.{GivenState}
 opened_same : (call : Call) (answer : Reply) (h : History) → is_opening call ≡ false → opened ((call, answer) ∷ h) ≡ opened h
 opened_same (Open terms) answer h e = absurd (true≢false e)
 opened_same (Windows now shown) answer h e = refl
-opened_same (FocusOn now d channel) answer h e = refl
+opened_same (FocusOn now d channel keys) answer h e = refl
 opened_same (Notify now a) answer h e = refl
 opened_same (Pump now) answer h e = refl
 opened_same (Tick now) answer h e = refl
@@ -37,7 +37,7 @@ opened_same (Remove now channel) answer h e = refl
 one_at_most : (call : Call) → is_scripted call ≤ 1
 one_at_most (Open terms) = omega arith
 one_at_most (Windows now shown) = omega arith
-one_at_most (FocusOn now d channel) = omega arith
+one_at_most (FocusOn now d channel keys) = omega arith
 one_at_most (Notify now a) = omega arith
 one_at_most (Pump now) = omega arith
 one_at_most (Tick now) = omega arith

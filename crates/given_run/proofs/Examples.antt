@@ -28,7 +28,7 @@ two_lanes =
       displays = one_display;
       channels = record { terms = usual; finishes = true; finish_after = 70 } ∷ [];
       steps =
-          record { lane = 1; call = calls.FocusOn 5 0 (Some 1) } ∷ record { lane = 2; call = calls.Remove 7 1 }
+          record { lane = 1; call = calls.FocusOn 5 0 (Some 1) true } ∷ record { lane = 2; call = calls.Remove 7 1 }
           ∷ record { lane = 1; call = calls.Pilfer 9 1 1 } ∷ [];
       cooked = [];
       until = 0;
@@ -37,7 +37,7 @@ two_lanes =
 -- each line makes its call: a step has its moment, wherever it stands, and a pump, a tick and a finish have moment 0
 each_line_makes_its_call :
     given_calls two_lanes (map line_of (Script 2 ∷ Tick ∷ Script 1 ∷ Receive 1 ∷ Script 1 ∷ Finish 1 3 ∷ Pump ∷ Receive 9 ∷ []))
-    ≡ Ok (calls.Open usual ∷ calls.Remove 7 1 ∷ calls.Tick 0 ∷ calls.FocusOn 5 0 (Some 1) ∷ calls.Receive 1 ∷ calls.Pilfer 9 1 1
+    ≡ Ok (calls.Open usual ∷ calls.Remove 7 1 ∷ calls.Tick 0 ∷ calls.FocusOn 5 0 (Some 1) true ∷ calls.Receive 1 ∷ calls.Pilfer 9 1 1
     ∷ calls.Finish 0 1 3 ∷ calls.Pump 0 ∷ calls.Receive 9 ∷ [])
 each_line_makes_its_call = refl
 

@@ -206,7 +206,7 @@ module _ (ds : List ℕ) (f : ℕ → Bool) (channels s m : ℕ) (own : List Own
           (pair_step ds f channels j (stage j h) (Finish now c seq) r c (weigh idle_one (calls_by (3 + s + j) h)) (steps h) l o.2 t.count now_on p.0 p.1).order (eq-eqb c c refl)
   orderly_one (k, Open terms, r) later few only l deeds shut all = tt
   orderly_one (k, Windows now shown, r) later few only l deeds shut all = tt
-  orderly_one (k, FocusOn now display channel, r) later few only l deeds shut all = tt
+  orderly_one (k, FocusOn now display channel keys, r) later few only l deeds shut all = tt
   orderly_one (k, Notify now a, r) later few only l deeds shut all = tt
   orderly_one (k, Pump now, r) later few only l deeds shut all = tt
   orderly_one (k, Tick now, r) later few only l deeds shut all = tt

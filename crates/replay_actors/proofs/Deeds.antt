@@ -112,7 +112,7 @@ of_pumping call e = absurd e
 
 pub of_script : (call : Call) → is_scripted call ≡ 1 → Traits 0 1 false call
 of_script (Windows now shown) e = record { notified_is = refl; scripted_is = refl; opens_is = refl; timeless = tt }
-of_script (FocusOn now display channel) e = record { notified_is = refl; scripted_is = refl; opens_is = refl; timeless = tt }
+of_script (FocusOn now display channel keys) e = record { notified_is = refl; scripted_is = refl; opens_is = refl; timeless = tt }
 of_script (Pilfer now channel device) e = record { notified_is = refl; scripted_is = refl; opens_is = refl; timeless = tt }
 of_script (Remove now channel) e = record { notified_is = refl; scripted_is = refl; opens_is = refl; timeless = tt }
 of_script call e = absurd (omega (arith, e))
@@ -145,7 +145,7 @@ about_pumping call c e = absurd e
 
 about_script : (call : Call) (c : ℕ) → is_scripted call ≡ 1 → is_about call c ≡ false
 about_script (Windows now shown) c e = refl
-about_script (FocusOn now display channel) c e = refl
+about_script (FocusOn now display channel keys) c e = refl
 about_script (Pilfer now channel device) c e = refl
 about_script (Remove now channel) c e = refl
 about_script call c e = absurd (omega (arith, e))

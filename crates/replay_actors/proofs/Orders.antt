@@ -186,8 +186,8 @@ module _ (seats : List ℕ) (cooked : List Cooked) (ss : List ScriptStep) where
       let e : Called Call Reply = (s, calls.Windows now shown, r) in
       let o = some_lane seats s alone.0 in
       by_script e h args rs o.0 o.1 refl (follows h args (with_step o.0 e.1 rs) shut.1 timeless.1 alone.1 cs (left_step e h rs o.0 o.1 left))
-  follows ((s, calls.FocusOn now display channel, r) ∷ h) args rs shut timeless alone cs left =
-      let e : Called Call Reply = (s, calls.FocusOn now display channel, r) in
+  follows ((s, calls.FocusOn now display channel keys, r) ∷ h) args rs shut timeless alone cs left =
+      let e : Called Call Reply = (s, calls.FocusOn now display channel keys, r) in
       let o = some_lane seats s alone.0 in
       by_script e h args rs o.0 o.1 refl (follows h args (with_step o.0 e.1 rs) shut.1 timeless.1 alone.1 cs (left_step e h rs o.0 o.1 left))
   follows ((s, calls.Pilfer now channel device, r) ∷ h) args rs shut timeless alone cs left =

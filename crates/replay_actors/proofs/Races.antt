@@ -71,7 +71,7 @@ scripts_from k (calls ∷ scripts) h made =
 pub open_same : (call : Call) (answer : Reply) (h : History) → opens call ≡ false → opened ((call, answer) ∷ h) ≡ opened h
 open_same (Open terms) answer h e = absurd (true≢false e)
 open_same (Windows now shown) answer h e = refl
-open_same (FocusOn now display channel) answer h e = refl
+open_same (FocusOn now display channel keys) answer h e = refl
 open_same (Notify now a) answer h e = refl
 open_same (Pump now) answer h e = refl
 open_same (Tick now) answer h e = refl

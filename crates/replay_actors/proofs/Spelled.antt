@@ -34,7 +34,7 @@ pub not_made : (o : Option ℕ) (call : Call) → opens call ≡ true → made_b
 not_made None (calls.Open terms) e = refl
 not_made (Some l) (calls.Open terms) e = refl
 not_made o (calls.Windows now shown) e = absurd (true≢false (sym e))
-not_made o (calls.FocusOn now display channel) e = absurd (true≢false (sym e))
+not_made o (calls.FocusOn now display channel keys) e = absurd (true≢false (sym e))
 not_made o (calls.Notify now a) e = absurd (true≢false (sym e))
 not_made o (calls.Pump now) e = absurd (true≢false (sym e))
 not_made o (calls.Tick now) e = absurd (true≢false (sym e))
@@ -46,7 +46,7 @@ not_made o (calls.Remove now channel) e = absurd (true≢false (sym e))
 pub neither : (call : Call) → opens call ≡ true → ((is_notified call == 1) ≡ false) × ((is_scripted call == 1) ≡ false)
 neither (calls.Open terms) e = (refl, refl)
 neither (calls.Windows now shown) e = absurd (true≢false (sym e))
-neither (calls.FocusOn now display channel) e = absurd (true≢false (sym e))
+neither (calls.FocusOn now display channel keys) e = absurd (true≢false (sym e))
 neither (calls.Notify now a) e = absurd (true≢false (sym e))
 neither (calls.Pump now) e = absurd (true≢false (sym e))
 neither (calls.Tick now) e = absurd (true≢false (sym e))

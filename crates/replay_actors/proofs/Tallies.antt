@@ -50,7 +50,7 @@ steps_append l (words.Finish c seq ∷ xs) ys = steps_append l xs ys
 lines_read : (call : Call) → readers (call_lines call) ≡ is_notified call
 lines_read (calls.Open terms) = refl
 lines_read (calls.Windows now shown) = refl
-lines_read (calls.FocusOn now display channel) = refl
+lines_read (calls.FocusOn now display channel keys) = refl
 lines_read (calls.Notify now a) = refl
 lines_read (calls.Pump now) = refl
 lines_read (calls.Tick now) = refl
@@ -62,7 +62,7 @@ lines_read (calls.Remove now channel) = refl
 lines_step : (l : ℕ) (call : Call) → steps_in l (call_lines call) ≡ 0
 lines_step l (calls.Open terms) = refl
 lines_step l (calls.Windows now shown) = refl
-lines_step l (calls.FocusOn now display channel) = refl
+lines_step l (calls.FocusOn now display channel keys) = refl
 lines_step l (calls.Notify now a) = refl
 lines_step l (calls.Pump now) = refl
 lines_step l (calls.Tick now) = refl
@@ -75,7 +75,7 @@ lines_step l (calls.Remove now channel) = refl
 lane_made : (l : ℕ) (call : Call) → opens call ≡ false → made_by (Some l) call ≡ words.Script l ∷ []
 lane_made l (calls.Open terms) e = absurd (true≢false e)
 lane_made l (calls.Windows now shown) e = refl
-lane_made l (calls.FocusOn now display channel) e = refl
+lane_made l (calls.FocusOn now display channel keys) e = refl
 lane_made l (calls.Notify now a) e = refl
 lane_made l (calls.Pump now) e = refl
 lane_made l (calls.Tick now) e = refl
@@ -87,7 +87,7 @@ lane_made l (calls.Remove now channel) e = refl
 none_made : (call : Call) → opens call ≡ false → made_by None call ≡ call_lines call
 none_made (calls.Open terms) e = absurd (true≢false e)
 none_made (calls.Windows now shown) e = refl
-none_made (calls.FocusOn now display channel) e = refl
+none_made (calls.FocusOn now display channel keys) e = refl
 none_made (calls.Notify now a) e = refl
 none_made (calls.Pump now) e = refl
 none_made (calls.Tick now) e = refl
@@ -101,7 +101,7 @@ not_both : (call : Call) → (is_scripted call == 1) ≡ true → is_notified ca
 not_both (calls.Notify now a) e = absurd (true≢false (sym e))
 not_both (calls.Open terms) e = refl
 not_both (calls.Windows now shown) e = refl
-not_both (calls.FocusOn now display channel) e = refl
+not_both (calls.FocusOn now display channel keys) e = refl
 not_both (calls.Pump now) e = refl
 not_both (calls.Tick now) e = refl
 not_both (calls.Receive channel) e = refl
@@ -112,7 +112,7 @@ not_both (calls.Remove now channel) e = refl
 one_notify : (call : Call) (calls : List Call) → length (cond (is_notified call == 1) (call ∷ calls) calls) ≡ length calls + is_notified call
 one_notify (calls.Open terms) xs = omega arith
 one_notify (calls.Windows now shown) xs = omega arith
-one_notify (calls.FocusOn now display channel) xs = omega arith
+one_notify (calls.FocusOn now display channel keys) xs = omega arith
 one_notify (calls.Notify now a) xs = omega arith
 one_notify (calls.Pump now) xs = omega arith
 one_notify (calls.Tick now) xs = omega arith

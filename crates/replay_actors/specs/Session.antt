@@ -1,5 +1,5 @@
 -- The channels and the steps of a session, as a history's plan has them.
-use Rattle.std.specs.Prelude.{ℕ, Option}
+use Rattle.std.specs.Prelude.{ℕ, true, Option}
 use Rattle.key_repeat.specs.declared.delays.Repeats.{Repeats}
 use Rattle.dispatch_calls.specs.declared.call.Call.{Call}
 use Rattle.dispatch_calls.specs.declared.call.Call.TheVariants as calls
@@ -16,7 +16,7 @@ channel_of repeats c = record { terms = record { limit = c.limit; repeats = repe
 -- the call of a step, at its moment
 abbrev pub call_of : ℕ → Act → Call
 call_of at (Windows snapshot) = calls.Windows at snapshot
-call_of at (FocusOn display channel) = calls.FocusOn at display channel
+call_of at (FocusOn display channel) = calls.FocusOn at display channel true
 call_of at (Pilfer channel device) = calls.Pilfer at channel device
 call_of at (Remove channel) = calls.Remove at channel
 

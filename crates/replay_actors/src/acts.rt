@@ -18,6 +18,7 @@ pub fn call_of(now: Moment, act: Act) -> Call
             now,
             display,
             channel,
+            keys: true,
         },
         Act::Pilfer { channel, device } => Call::Pilfer {
             now,

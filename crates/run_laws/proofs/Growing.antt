@@ -23,7 +23,7 @@ opened_more : (call : Call) (answer : Reply) (n : ℕ) → n ≤ opened_after ca
 opened_more (Open terms) (Opened k) n = omega arith
 opened_more (Open terms) _ n = omega arith
 opened_more (Windows now shown) answer n = omega arith
-opened_more (FocusOn now d channel) answer n = omega arith
+opened_more (FocusOn now d channel keys) answer n = omega arith
 opened_more (Notify now a) answer n = omega arith
 opened_more (Pump now) answer n = omega arith
 opened_more (Tick now) answer n = omega arith

@@ -50,7 +50,7 @@ received_one es c =
 quiet_reply : (es : List Effect) (call : Call) → is_notified call ≡ 0 → refuses (reply_to es call) ≡ false
 quiet_reply es (Open terms) e = either (nat_lt (opened (past_of es)) 64) (Opened (opened (past_of es) + 1)) Full refl refl
 quiet_reply es (Windows now shown) e = refl
-quiet_reply es (FocusOn now d channel) e = refl
+quiet_reply es (FocusOn now d channel keys) e = refl
 quiet_reply es (Notify now a) e = absurd (omega (arith, e))
 quiet_reply es (Pump now) e = pumped (inbound (past_of es)) (repeat_due es) (max now (clock (past_of es)))
 quiet_reply es (Tick now) e = refl
@@ -70,7 +70,7 @@ quiet_reply es (Remove now channel) e = either (live (past_of es) channel) Done 
 quiet_accepts : (call : Call) (answer : Reply) (before : List Args) → is_notified call ≡ 0 → accepted_after call answer before ≡ before
 quiet_accepts (Open terms) answer before e = refl
 quiet_accepts (Windows now shown) answer before e = refl
-quiet_accepts (FocusOn now d channel) answer before e = refl
+quiet_accepts (FocusOn now d channel keys) answer before e = refl
 quiet_accepts (Notify now a) answer before e = absurd (omega (arith, e))
 quiet_accepts (Pump now) answer before e = refl
 quiet_accepts (Tick now) answer before e = refl

@@ -38,7 +38,7 @@ pub record Plain (call : Call) : Type 0 where
 
 pub scripted_plain : (call : Call) → is_scripted call ≡ 1 → Plain call
 scripted_plain (Windows now shown) e = record { receives_not = refl; opens_not = refl; notifies_not = refl }
-scripted_plain (FocusOn now y channel) e = record { receives_not = refl; opens_not = refl; notifies_not = refl }
+scripted_plain (FocusOn now y channel keys) e = record { receives_not = refl; opens_not = refl; notifies_not = refl }
 scripted_plain (Pilfer now channel device) e = record { receives_not = refl; opens_not = refl; notifies_not = refl }
 scripted_plain (Remove now channel) e = record { receives_not = refl; opens_not = refl; notifies_not = refl }
 scripted_plain (Open terms) e = absurd (omega (arith, e))

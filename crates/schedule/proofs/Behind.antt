@@ -52,7 +52,7 @@ quiet_at (Receive d) (Got m) c k never =
 quiet_at (Receive d) answer c k never = refl
 quiet_at (Open terms) answer c k never = refl
 quiet_at (Windows now shown) answer c k never = refl
-quiet_at (FocusOn now y channel) answer c k never = refl
+quiet_at (FocusOn now y channel keys) answer c k never = refl
 quiet_at (Notify now a) answer c k never = refl
 quiet_at (Pump now) answer c k never = refl
 quiet_at (Tick now) answer c k never = refl
@@ -86,7 +86,7 @@ is_receive (Open terms) (Opened k) c e = absurd (no_open (c == k) e)
     no_open false e = cc
 is_receive (Open terms) answer c e = absurd (cc e)
 is_receive (Windows now shown) answer c e = absurd (cc e)
-is_receive (FocusOn now y channel) answer c e = absurd (cc e)
+is_receive (FocusOn now y channel keys) answer c e = absurd (cc e)
 is_receive (Notify now a) answer c e = absurd (cc e)
 is_receive (Pump now) answer c e = absurd (cc e)
 is_receive (Tick now) answer c e = absurd (cc e)

@@ -31,7 +31,7 @@ pub live_back : (call : Call) (answer : Reply) (h : History) (c : ℕ) → is_op
 live_back (Open terms) answer h c e y = absurd (true≢false e)
 live_back (Remove now k) answer h c e y = removed_live now k c answer (live h c) y
 live_back (Windows now shown) answer h c e y = y
-live_back (FocusOn now d channel) answer h c e y = y
+live_back (FocusOn now d channel keys) answer h c e y = y
 live_back (Notify now a) answer h c e y = y
 live_back (Pump now) answer h c e y = y
 live_back (Tick now) answer h c e y = y
@@ -44,7 +44,7 @@ opened_same : (call : Call) (answer : Reply) (h : History) → is_opening call �
 opened_same (Open terms) answer h e = absurd (true≢false e)
 opened_same (Remove now k) answer h e = refl
 opened_same (Windows now shown) answer h e = refl
-opened_same (FocusOn now d channel) answer h e = refl
+opened_same (FocusOn now d channel keys) answer h e = refl
 opened_same (Notify now a) answer h e = refl
 opened_same (Pump now) answer h e = refl
 opened_same (Tick now) answer h e = refl

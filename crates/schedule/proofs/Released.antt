@@ -161,7 +161,7 @@ finished_same : (call : Call) (answer : Reply) (h : History) (c : ℕ) → is_fi
 finished_same (Finish now channel seq) answer h c e = absurd (true≢false e)
 finished_same (Open terms) answer h c e = refl
 finished_same (Windows now shown) answer h c e = refl
-finished_same (FocusOn now d channel) answer h c e = refl
+finished_same (FocusOn now d channel keys) answer h c e = refl
 finished_same (Notify now a) answer h c e = refl
 finished_same (Pump now) answer h c e = refl
 finished_same (Tick now) answer h c e = refl

@@ -49,7 +49,7 @@ finished_back (Finish now d seq) Done h c k e = by_channel (c == d) e
 finished_back (Finish now d seq) answer h c k e = e
 finished_back (Open terms) answer h c k e = e
 finished_back (Windows now shown) answer h c k e = e
-finished_back (FocusOn now y channel) answer h c k e = e
+finished_back (FocusOn now y channel keys) answer h c k e = e
 finished_back (Notify now a) answer h c k e = e
 finished_back (Pump now) answer h c k e = e
 finished_back (Tick now) answer h c k e = e

@@ -134,7 +134,7 @@ pub sent_in_order :
     order_of_history (7 ∷ []) (
     record { seat = 0; call = calls.Finish 0 1 2; reply = replies.Done }
     ∷ record { seat = 0; call = calls.Pump 0; reply = replies.Dispatched }
-    ∷ record { seat = 7; call = calls.FocusOn 0 0 None; reply = replies.Done }
+    ∷ record { seat = 7; call = calls.FocusOn 0 0 None true; reply = replies.Done }
     ∷ record { seat = 0; call = calls.Open usual; reply = replies.Opened 1 }
     ∷ []
     )

@@ -67,7 +67,8 @@ fn explain(lines: &mut Vec<u8>, dispatcher: &mut Dispatcher, call: &Call) -> Res
             now,
             display,
             channel,
-        } => focus_on(lines, dispatcher, *now, *display, *channel),
+            keys,
+        } => focus_on(lines, dispatcher, *now, *display, *channel, *keys),
         Call::Notify { .. } | Call::Receive { .. } => make(dispatcher, call),
     }
 }

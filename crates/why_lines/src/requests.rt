@@ -44,10 +44,11 @@ pub(crate) fn focus_on(
     now: Moment,
     display: DisplayId,
     channel: Option<u32>,
+    keys: bool,
 ) -> Result<(), OutOfMemory>
-    ensures known { ExplainsCall result (FocusOn now display channel)
+    ensures known { ExplainsCall result (FocusOn now display channel keys)
         lines.old.items lines.new.items dispatcher.old dispatcher.new }
-    ensures made { MakesAsSaid result (FocusOn now display channel) dispatcher.old dispatcher.new }
+    ensures made { MakesAsSaid result (FocusOn now display channel keys) dispatcher.old dispatcher.new }
 {
     let clock = now.later(dispatcher.clock());
     let before = all_focused(dispatcher);
@@ -60,6 +61,7 @@ pub(crate) fn focus_on(
             now,
             display,
             channel,
+            keys,
         },
     )?;
     let after = all_focused(dispatcher);

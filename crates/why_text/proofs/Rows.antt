@@ -95,7 +95,7 @@ pressed now scan down = dispatch now (KeyOfDevice (key scan 24 down))
 -- It holds pointers of two devices and two keys then.
 it_loses_all_that_it_holds :
     why
-    (side_by_side 0 0 ++ FocusOn 0 0 (Some 1) ∷ [] ++ first_finger ++ second_finger 200 300
+    (side_by_side 0 0 ++ FocusOn 0 0 (Some 1) true ∷ [] ++ first_finger ++ second_finger 200 300
     ++ dispatch 1020000 (MotionArgs (of 2 (motion Down 0 (at 0 10 20 ∷ [])))) ++ pressed 1030000 115 true ++ pressed 1040000 30 true ++ Tick 5000000 ∷ [])
     ≡ shown ++ codes "0 request 0 1\n0 focus 0 - 1\n0 target - 1\n" ++ first_down
     ++ codes "1010000 down 1 1 200,300 touched 1 row split chosen 1 spies - pilfering - given 1 mute - outside -\n"
@@ -108,7 +108,7 @@ it_loses_all_that_it_holds = refl
 -- A device is reset. Window 1 holds a key of it, and window 2 a pointer.
 a_device_begins_anew :
     why
-    (side_by_side 0 0 ++ FocusOn 0 0 (Some 1) ∷ [] ++ pressed 1000 115 true ++ moved 2000 Down 0 (at 0 700 400 ∷ []) ++ dispatch 3000 (Reset 1))
+    (side_by_side 0 0 ++ FocusOn 0 0 (Some 1) true ∷ [] ++ pressed 1000 115 true ++ moved 2000 Down 0 (at 0 700 400 ∷ []) ++ dispatch 3000 (Reset 1))
     ≡ shown ++ codes "0 request 0 1\n0 focus 0 - 1\n0 target - 1\n1000 key 1 115 down target 1 given 1\n"
     ++ codes "2000 down 1 0 700,400 touched 2 row first chosen 2 spies - pilfering - given 2 mute - outside -\n3000 reset 1 from 1,2\n"
 unfolding digits channels_that ids_that
@@ -116,7 +116,7 @@ a_device_begins_anew = refl
 
 a_key_is_repeated :
     why
-    (side_by_side 0 0 ++ pressed 1000 30 true ++ FocusOn 2000 0 (Some 2) ∷ [] ++ pressed 3000 115 true ++ Pump 503000 ∷ [] ++ pressed 504000 115 false
+    (side_by_side 0 0 ++ pressed 1000 30 true ++ FocusOn 2000 0 (Some 2) true ∷ [] ++ pressed 3000 115 true ++ Pump 503000 ∷ [] ++ pressed 504000 115 false
     ++ pressed 505000 30 false)
     ≡ shown ++ codes "1000 key 1 30 down target - given -\n2000 request 0 2\n2000 focus 0 - 2\n2000 target - 2\n3000 key 1 115 down target 2 given 2\n"
     ++ codes "503000 key 1 115 repeat 1 to 2\n504000 key 1 115 up from 2\n505000 key 1 30 up from -\n"
@@ -159,7 +159,7 @@ a_window_goes = refl
 -- A channel is removed while its window holds a pointer and a key, and has the focus; and once more.
 a_channel_is_removed :
     why
-    (side_by_side 0 0 ++ FocusOn 0 0 (Some 1) ∷ [] ++ first_finger ++ pressed 1010000 115 true ++ Remove 1020000 1 ∷ Remove 1030000 1 ∷ [])
+    (side_by_side 0 0 ++ FocusOn 0 0 (Some 1) true ∷ [] ++ first_finger ++ pressed 1010000 115 true ++ Remove 1020000 1 ∷ Remove 1030000 1 ∷ [])
     ≡ shown ++ codes "0 request 0 1\n0 focus 0 - 1\n0 target - 1\n" ++ first_down ++ codes "1010000 key 1 115 down target 1 given 1\n"
     ++ codes "1020000 removed 1 1:0 key 1:115\n1020000 focus 0 1 -\n1020000 target 1 -\n1030000 removed 1 Gone\n"
 unfolding digits channels_that ids_that
@@ -168,8 +168,8 @@ a_channel_is_removed = refl
 -- Window 1 is on display 0, and window 2 on display 1. The request for display 1 takes the keys to window 2, and back.
 the_focus_of_two_displays :
     why_on two_displays
-    (open_two ++ Windows 0 (window 1 0 0 0 540 2400 ∷ on 1 (window 2 0 0 0 540 2400) ∷ []) ∷ FocusOn 1000 0 (Some 1) ∷ FocusOn 2000 1 (Some 2) ∷ []
-    ++ pressed 3000 115 true ++ FocusOn 4000 0 (Some 1) ∷ FocusOn 5000 0 None ∷ [])
+    (open_two ++ Windows 0 (window 1 0 0 0 540 2400 ∷ on 1 (window 2 0 0 0 540 2400) ∷ []) ∷ FocusOn 1000 0 (Some 1) true ∷ FocusOn 2000 1 (Some 2) true ∷ []
+    ++ pressed 3000 115 true ++ FocusOn 4000 0 (Some 1) true ∷ FocusOn 5000 0 None true ∷ [])
     ≡ codes "0 windows 1@0:0,0,540,2400 2@1:0,0,540,2400\n1000 request 0 1\n1000 focus 0 - 1\n1000 target - 1\n"
     ++ codes "2000 request 1 2\n2000 focus 1 - 2\n2000 target 1 2\n3000 key 1 115 down target 2 given 2\n4000 request 0 1\n4000 gone 2 key 1:115\n"
     ++ codes "4000 target 2 1\n5000 request 0 -\n5000 focus 0 1 -\n5000 target 1 -\n"
@@ -178,7 +178,7 @@ the_focus_of_two_displays = refl
 
 -- The focus is requested for a channel that is not there. It has the focus once it is opened.
 a_channel_that_is_not_there :
-    why (open_two ++ Windows 0 (window 3 0 0 0 540 2400 ∷ []) ∷ FocusOn 1000 0 (Some 9) ∷ FocusOn 2000 0 (Some 3) ∷ Open usual ∷ [])
+    why (open_two ++ Windows 0 (window 3 0 0 0 540 2400 ∷ []) ∷ FocusOn 1000 0 (Some 9) true ∷ FocusOn 2000 0 (Some 3) true ∷ Open usual ∷ [])
     ≡ codes "0 windows 3@0:0,0,540,2400\n1000 request 0 9\n2000 request 0 3\n2000 focus 0 - 3\n2000 target - 3\n"
 unfolding digits channels_that ids_that
 a_channel_that_is_not_there = refl

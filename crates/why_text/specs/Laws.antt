@@ -119,7 +119,7 @@ SilentLaw =
 abbrev pub may_move_focus : Call → Reply → Bool
 may_move_focus (Open terms) (Opened k) = true
 may_move_focus (Windows now ws) reply = true
-may_move_focus (FocusOn now display channel) reply = true
+may_move_focus (FocusOn now display channel keys) reply = true
 may_move_focus (Remove now channel) Done = true
 may_move_focus call reply = false
 

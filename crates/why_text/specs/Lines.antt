@@ -215,7 +215,7 @@ request_word display c = codes "request " ++ decimal display ++ codes " " ++ cha
 -- The lines of a step with this call and reply.
 abbrev pub call_words : List ℕ → Call → Reply → Effect → List Effect → List (List ℕ)
 call_words displays (Windows now ws) reply x before = snapshot_words ws ∷ gone_words x before
-call_words displays (FocusOn now y c) reply x before = request_word y c ∷ gone_words x before
+call_words displays (FocusOn now y c keys) reply x before = request_word y c ∷ gone_words x before
 call_words displays (Pump now) Dispatched x before = args_words displays x.args x before
 call_words displays (Pump now) Repeated x before = repeat_words (last_key before)
 call_words displays (Tick now) (Named mask) x before = map (timeout_words x before) (channels_that (mask_has mask))

@@ -41,7 +41,7 @@ a_reset_of_its_device_cancels = refl
 a_reset_of_another_does_not : target_sent (Pump 1600000) Dispatched (Some (Reset 2)) 1 true true held (sent 2 1550000) ≡ []
 a_reset_of_another_does_not = refl
 
-the_focus_moves_away : target_sent (FocusOn 1600000 0 (Some 2)) Done None 1 true false held (sent 2 1550000) ≡ message false 32 0 ∷ []
+the_focus_moves_away : target_sent (FocusOn 1600000 0 (Some 2) true) Done None 1 true false held (sent 2 1550000) ≡ message false 32 0 ∷ []
 the_focus_moves_away = refl
 
 the_windows_are_shown_again : target_sent (Windows 1600000 []) Done None 1 true true held (sent 2 1550000) ≡ []

@@ -8,7 +8,7 @@ use Rattle.std.proofs.lemmas.Nat.Bits.{bit_at_and, bit_at-lt}
 use Rattle.window_snapshot.specs.Mask.{is_channel, mask_has}
 use Rattle.window_snapshot.proofs.Masks.{mask_has-zero}
 use Rattle.window_snapshot.specs.Named.{is_focusable_on}
-use Rattle.focus_resolver.specs.Resolver.{FocusState, focus_if, focus_of, is_focused, may_by}
+use Rattle.focus_resolver.specs.Resolver.{FocusState, focus_if, keyed_after, focus_of, is_focused, may_by}
 use Rattle.dispatch_calls.specs.declared.call.Call.{Call}
 use Rattle.dispatch_calls.specs.declared.call.Call.TheVariants.{Open, Windows, FocusOn, Remove}
 use Rattle.dispatch_calls.specs.declared.reply.Reply.{Reply}
@@ -46,15 +46,19 @@ focus_read es f is = (
 )
 
 pub focus_requested : FocusRequested
-focus_requested ds now display channel answer es f lt is =
+focus_requested ds now display channel keys answer es f lt is =
     record {
       four = length-set f.requested display channel ∙ is.four;
       requested_are = λ y yt. by_display y yt;
-      last_is = refl;
-      last_within = lt;
+      last_is = ap (λ last. keyed_after keys display last) is.last_is;
+      last_within = within keys;
       masks_are = is.masks_are;
     }
   where
+    within : (k : Bool) → keyed_after k display f.last < 4
+    within true = lt
+    within false = is.last_within
+
     by_display : (y : ℕ) → y < 4 → slice_index_or (slice_set f.requested display channel) y None ≡ cond (y == display) channel (requested (past_of es) y)
     by_display y yt =
         elim (cases_eq y display) [
@@ -70,11 +74,11 @@ focus_requested ds now display channel answer es f lt is =
 
 -- a call that is no request leaves what was requested
 same_requests : (call : Call) (answer : Reply) (h : History) (y : ℕ) → is_request call ≡ false → requested ((call, answer) ∷ h) y ≡ requested h y
-same_requests (FocusOn now display channel) answer h y e = absurd (true≢false e)
+same_requests (FocusOn now display channel keys) answer h y e = absurd (true≢false e)
 same_requests _ answer h y e = refl
 
 same_asked : (call : Call) (answer : Reply) (h : History) → is_request call ≡ false → asked ((call, answer) ∷ h) ≡ asked h
-same_asked (FocusOn now display channel) answer h e = absurd (true≢false e)
+same_asked (FocusOn now display channel keys) answer h e = absurd (true≢false e)
 same_asked _ answer h e = refl
 
 pub focus_shown : FocusShown
@@ -89,13 +93,13 @@ focus_shown ds call answer es f masks e shown is =
 
 -- and a call that changes neither the windows nor the live channels leaves everything as before
 no_request : (call : Call) → leaves_focus call ≡ true → is_request call ≡ false
-no_request (FocusOn now display channel) e = absurd (true≢false (sym e))
+no_request (FocusOn now display channel keys) e = absurd (true≢false (sym e))
 no_request _ e = refl
 
 same_may : (call : Call) (answer : Reply) (h : History) (y c : ℕ) → leaves_focus call ≡ true → may_focus ((call, answer) ∷ h) y c ≡ may_focus h y c
 same_may (Open terms) answer h y c e = absurd (true≢false (sym e))
 same_may (Windows now shown) answer h y c e = absurd (true≢false (sym e))
-same_may (FocusOn now display channel) answer h y c e = absurd (true≢false (sym e))
+same_may (FocusOn now display channel keys) answer h y c e = absurd (true≢false (sym e))
 same_may (Remove now channel) answer h y c e = absurd (true≢false (sym e))
 same_may _ answer h y c e = refl
 

@@ -68,7 +68,7 @@ only_target ds ((call, answer) ∷ h) w n =
         absurd (true≢false (sym (ap₂ (λ b c. b && c) t (later ∙ ap (λ b. b && true) p.0)) ∙ q))
     by_call (Open terms) t a q = left (Open terms) t a q
     by_call (Windows now shown) t a q = left (Windows now shown) t a q
-    by_call (FocusOn now y c) t a q = left (FocusOn now y c) t a q
+    by_call (FocusOn now y c keys) t a q = left (FocusOn now y c keys) t a q
     by_call (Notify now b) t a q = left (Notify now b) t a q
     by_call (Tick now) t a q = left (Tick now) t a q
     by_call (Receive c) t a q = left (Receive c) t a q

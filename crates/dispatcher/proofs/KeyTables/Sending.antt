@@ -95,7 +95,7 @@ keys_quiet ds call answer es w l n = by_call call (lawful_last ds call answer es
         ]))
     by_call (Open terms) p = still (Open terms) p.1
     by_call (Windows now shown) p = still (Windows now shown) p.1
-    by_call (FocusOn now y c) p = still (FocusOn now y c) p.1
+    by_call (FocusOn now y c keys) p = still (FocusOn now y c keys) p.1
     by_call (Notify now a) p = still (Notify now a) p.1
     by_call (Tick now) p = still (Tick now) p.1
     by_call (Receive c) p = still (Receive c) p.1
@@ -243,7 +243,7 @@ target_sent_law ds call answer es w held last l t n k r = by_call call n (lawful
         (named_only (is_target (past_of es) w) (mask_has mask w) (live (past_of es) w) m))
     by_call (Open terms) m p = moved (Open terms) refl m
     by_call (Windows now shown) m p = moved (Windows now shown) refl m
-    by_call (FocusOn now y c) m p = moved (FocusOn now y c) refl m
+    by_call (FocusOn now y c keys) m p = moved (FocusOn now y c keys) refl m
     by_call (Notify now a) m p = moved (Notify now a) refl m
     by_call (Receive c) m p = moved (Receive c) refl m
     by_call (Finish now c s) m p = moved (Finish now c s) refl m

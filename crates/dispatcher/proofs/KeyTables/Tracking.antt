@@ -143,7 +143,7 @@ keys_next ds call answer h w held l n are = by_call call l n
         (λ y. subst (λ ks. RepeatHeld ks (last_key es) w) (sym are) (repeat_held ds es w (max now (clock (past_of es))) old y)))
     by_call (Open terms) m q = quiet (Open terms)
     by_call (Windows now shown) m q = quiet (Windows now shown)
-    by_call (FocusOn now y c) m q = quiet (FocusOn now y c)
+    by_call (FocusOn now y c keys) m q = quiet (FocusOn now y c keys)
     by_call (Notify now a) m q = quiet (Notify now a)
     by_call (Tick now) m q = quiet (Tick now)
     by_call (Receive c) m q = quiet (Receive c)

@@ -46,7 +46,7 @@ few_step es (Pump now) answer r few =
     few_pumped (accepted (past_of es)) (dispatches (past_of es)) now (max now (clock (past_of es))) (repeat_due es) answer (inbound (past_of es)) few refl r
 few_step es (Open terms) answer r few = few
 few_step es (Windows now shown) answer r few = few
-few_step es (FocusOn now display channel) answer r few = few
+few_step es (FocusOn now display channel keys) answer r few = few
 few_step es (Tick now) answer r few = few
 few_step es (Receive channel) answer r few = few
 few_step es (Finish now channel seq) answer r few = few
@@ -93,7 +93,7 @@ waits_step es (Pump now) answer r few =
     waits_pumped (accepted (past_of es)) (dispatches (past_of es)) now (max now (clock (past_of es))) (repeat_due es) answer (inbound (past_of es)) r
 waits_step es (Open terms) answer r few = refl
 waits_step es (Windows now shown) answer r few = refl
-waits_step es (FocusOn now display channel) answer r few = refl
+waits_step es (FocusOn now display channel keys) answer r few = refl
 waits_step es (Tick now) answer r few = refl
 waits_step es (Receive channel) answer r few = refl
 waits_step es (Finish now channel seq) answer r few = refl
@@ -117,7 +117,7 @@ down_step es (Notify now a) answer old new r stands goes =
 down_step es (Pump now) answer old new r stands goes = rw goes stands
 down_step es (Open terms) answer old new r stands goes = rw goes stands
 down_step es (Windows now shown) answer old new r stands goes = rw goes stands
-down_step es (FocusOn now display channel) answer old new r stands goes = rw goes stands
+down_step es (FocusOn now display channel keys) answer old new r stands goes = rw goes stands
 down_step es (Tick now) answer old new r stands goes = rw goes stands
 down_step es (Receive channel) answer old new r stands goes = rw goes stands
 down_step es (Finish now channel seq) answer old new r stands goes = rw goes stands

@@ -26,8 +26,8 @@ refocused ds call answer es f g ws alive none is shown lives r =
 pub focus_goes : (ds : List ℕ) (call : Call) (answer : Reply) (es : List Effect) (f g : FocusState) (ws : List Window) (alive : ℕ) → FocusIs es f
     → ws ≡ snapshot (past_of (step ds call answer es)) → ((c : ℕ) → mask_has alive c ≡ live (past_of (step ds call answer es)) c)
     → FocusGoes call ws alive f g → FocusIs (step ds call answer es) g
-focus_goes ds (FocusOn now y c) answer es f g ws alive is shown lives goes =
-    subst (FocusIs (step ds (FocusOn now y c) answer es)) (sym goes.1) (focus_requested ds now y c answer es f goes.0 is)
+focus_goes ds (FocusOn now y c keys) answer es f g ws alive is shown lives goes =
+    subst (FocusIs (step ds (FocusOn now y c keys) answer es)) (sym goes.1) (focus_requested ds now y c keys answer es f goes.0 is)
 focus_goes ds (Open terms) answer es f g ws alive is shown lives goes = refocused ds (Open terms) answer es f g ws alive refl is shown lives goes
 focus_goes ds (Windows now next) answer es f g ws alive is shown lives goes = refocused ds (Windows now next) answer es f g ws alive refl is shown lives goes
 focus_goes ds (Remove now c) answer es f g ws alive is shown lives goes = refocused ds (Remove now c) answer es f g ws alive refl is shown lives goes

@@ -72,7 +72,7 @@ late_is ds es k now s =
 pub reply_law : ReplyLaw
 reply_law ds es k (Open terms) s o may = ap open_reply (sym s.knows.delivery.count_is)
 reply_law ds es k (Windows now shown) s o may = refl
-reply_law ds es k (FocusOn now display channel) s o may = refl
+reply_law ds es k (FocusOn now display channel keys) s o may = refl
 reply_law ds es k (Notify now a) s o may =
     ap (λ x. notify_reply x a) (says_down (accepted (past_of es)) k.queue.down (device_of a) s.knows.queue.down_is o.0 o.1)
 reply_law ds es k (Pump now) s o may =

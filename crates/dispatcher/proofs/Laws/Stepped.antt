@@ -1,10 +1,10 @@
 -- All tables go one step on.
-use Rattle.std.proofs.Common.{◌≡◌, ℕ, max, ◌<◌, Bool, true, false, cond, List, slice_get, slice_set, Option, Some, None, refl, sym, ap, ◌∙◌, subst, arith}
+use Rattle.std.proofs.Common.{◌≡◌, ℕ, max, ◌<◌, Bool, true, false, cond, List, slice_get, Option, Some, None, refl, sym, ap, ◌∙◌, subst, arith}
 use Rattle.std.proofs.lemmas.Bool.{true≢false}
 use Rattle.window_snapshot.specs.Mask.{mask_has}
 use Rattle.window_snapshot.proofs.Masks.{mask_has-zero}
 use Rattle.input_types.specs.declared.message.Args.{Args}
-use Rattle.focus_resolver.specs.Resolver.{FocusState}
+use Rattle.focus_resolver.specs.Resolver.{FocusState, after_request}
 use Rattle.dispatcher.proofs.KeyTables.Focusing.{focus_read, focus_requested}
 use Rattle.dispatch_calls.specs.declared.call.Call.{Call}
 use Rattle.dispatch_calls.specs.declared.call.Call.TheVariants.{Open, Windows, FocusOn, Notify, Pump, Tick, Receive, Finish, Pilfer, Remove}
@@ -33,7 +33,7 @@ use Rattle.dispatcher.proofs.Rounds.KeySteps.{idle_reply}
 stepped_goes : (call : Call) (answer : Reply) (q : Queue) → is_routed call ≡ true → QueueGoes call answer q (stepped (moment_of call) q)
 stepped_goes (Open terms) answer q r = record { clock_is = refl; place_is = refl; waiting_is = refl; down_is = refl }
 stepped_goes (Windows now shown) answer q r = record { clock_is = refl; place_is = refl; waiting_is = refl; down_is = refl }
-stepped_goes (FocusOn now display channel) answer q r = record { clock_is = refl; place_is = refl; waiting_is = refl; down_is = refl }
+stepped_goes (FocusOn now display channel keys) answer q r = record { clock_is = refl; place_is = refl; waiting_is = refl; down_is = refl }
 stepped_goes (Notify now args) answer q r = absurd (true≢false (sym r))
 stepped_goes (Pump now) answer q r = absurd (true≢false (sym r))
 stepped_goes (Tick now) answer q r = record { clock_is = refl; place_is = refl; waiting_is = refl; down_is = refl }
@@ -140,13 +140,13 @@ passed_on old later new call answer now place clk routed moment time at is g =
     }))
 
 -- what a request leaves of the focus in the history it leaves in the tables
-pub calm_request : (es : List Effect) (q : Queue) (r : Routing) (now display : ℕ) (channel : Option ℕ) → KeptStandsFor r.displays es (kept q r)
-    → IsCalm es (FocusOn now display channel) → display < 4 → LeavesFocus display channel r.focus
-calm_request es q r now display channel s calm lt =
-    let g : FocusState = record { requested = slice_set r.focus.requested display channel; last = display; focusable = r.focus.focusable } in
+pub calm_request : (es : List Effect) (q : Queue) (r : Routing) (now display : ℕ) (channel : Option ℕ) (keys : Bool) → KeptStandsFor r.displays es (kept q r)
+    → IsCalm es (FocusOn now display channel keys) → display < 4 → LeavesFocus display channel keys r.focus
+calm_request es q r now display channel keys s calm lt =
+    let g : FocusState = after_request display channel keys r.focus in
     let was = focus_read es r.focus s.knows.keying.focus_is in
-    let is = focus_read (step r.displays (FocusOn now display channel) Done es) g
-    (focus_requested r.displays now display channel Done es r.focus lt s.knows.keying.focus_is) in
+    let is = focus_read (step r.displays (FocusOn now display channel keys) Done es) g
+    (focus_requested r.displays now display channel keys Done es r.focus lt s.knows.keying.focus_is) in
     (λ w. is.1 w ∙ calm.focus_is w ∙ sym (was.1 w), is.2 ∙ calm.target_is ∙ sym was.2)
 
 -- where a tick reports no ANR, no channel is due

@@ -72,7 +72,7 @@ other_steps ds es k s =
           ap (λ ws. stays ws next w) (sym s.knows.shown.windows_are)
           ∙ ap (λ b. b && stays k.shown.windows next w) (sym number)
           ∙ sym (has w);
-      focuses = λ now watchers y c. tt;
+      focuses = λ now watchers y c keys. tt;
       opens = λ terms number watchers. tt;
       ticks = λ now mask watchers w number. refl;
       pilfers = λ now c d watchers. (refl, refl);

@@ -60,7 +60,7 @@ may_hand es t (Receive c) s = λ lives.
     subst (λ n. n ≤ received (past_of es) c) (ap (λ x. x.gone) (channel_bare t.routing.channels c)) ((s.may_go c number.0).of_live lives)
 may_hand es t (Open terms) s = tt
 may_hand es t (Windows now shown) s = tt
-may_hand es t (FocusOn now display channel) s = tt
+may_hand es t (FocusOn now display channel keys) s = tt
 may_hand es t (Notify now args) s = tt
 may_hand es t (Pump now) s = tt
 may_hand es t (Tick now) s = tt

@@ -1,10 +1,10 @@
 -- Calls that change who has the focus, take all from windows, or open a channel.
-use Rattle.std.proofs.Common.{◌≡◌, ◌<◌, ◌^◌, ℕ, Bool, true, false, not, ◌&&◌, cond, List, [], Option, Some, None, refl, sym, ap, ◌∙◌, subst, slice_set, if◌then◌else◌}
+use Rattle.std.proofs.Common.{◌≡◌, ◌<◌, ◌^◌, ℕ, Bool, true, false, not, ◌&&◌, cond, List, [], Option, Some, None, refl, sym, ap, ◌∙◌, subst, if◌then◌else◌}
 use Rattle.input_types.specs.declared.key.KeyMsg.{KeyMsg}
 use Rattle.window_snapshot.specs.declared.window.Window.{Window}
 use Rattle.window_snapshot.specs.Mask.{is_channel, mask_has}
 use Rattle.window_snapshot.specs.Named.{is_focusable_on}
-use Rattle.focus_resolver.specs.Resolver.{FocusState, may_by, target_of, focus_of, is_focused, is_at}
+use Rattle.focus_resolver.specs.Resolver.{FocusState, after_request, may_by, target_of, focus_of, is_focused, is_at}
 use Rattle.focus_resolver.specs.Changes.{IsOnlyIn}
 use Rattle.dispatcher.specs.CancelSynthesis.Ends.{keys_cancelled}
 use Rattle.routing_rules.specs.Scene.{stays}
@@ -230,17 +230,17 @@ show_goes old mid place clk s ws before mask lost gained live target masks g sho
     (λ c. staying c ∙ ap (λ v. is_channel c && stays v ws c) was ∙ ap (λ v. is_channel c && stays old.shown.windows v c) copied))
 
 -- the focus of a display is requested
-pub request_goes : (old mid : Routing) (place clk display lost gained : ℕ) (channel target : Option ℕ) (g : FocusState)
+pub request_goes : (old mid : Routing) (place clk display lost gained : ℕ) (channel target : Option ℕ) (keys : Bool) (g : FocusState)
     → display < 4
     → CarriesSome NoOp (lost_keys old.focus target old.channels) lost gained place clk old mid
     → target ≡ target_of g
-    → g ≡ record { requested = slice_set old.focus.requested display channel; last = display; focusable = old.focus.focusable }
+    → g ≡ after_request display channel keys old.focus
     → IsOnlyIn lost (is_focused (focus_of old.focus)) (is_focused (focus_of g))
     → IsOnlyIn gained (is_focused (focus_of g)) (is_focused (focus_of old.focus))
-    → Goes (λ now. FocusOn now display channel) Done place clk old (record mid { focus = g })
-request_goes old mid place clk display lost gained channel target g lt some to is l h =
+    → Goes (λ now. FocusOn now display channel keys) Done place clk old (record mid { focus = g })
+request_goes old mid place clk display lost gained channel target keys g lt some to is l h =
     let from : mid.shown ≡ old.shown = some.carries.carries.shown_is in
-    refocused (λ now. FocusOn now display channel) place clk old mid NoOp lost gained g mid.shown
+    refocused (λ now. FocusOn now display channel keys) place clk old mid NoOp lost gained g mid.shown
     (subst (λ t. CarriesSome NoOp (lost_keys old.focus t old.channels) lost gained place clk old mid) to some)
     (λ now. refl)
     (λ now. tt)
@@ -251,16 +251,16 @@ request_goes old mid place clk display lost gained channel target g lt some to i
     (λ now. (lt, is))
     l
     h
-    (λ es now w queue stands. (other_steps old.displays es (kept queue old) stands).focuses now w display channel)
+    (λ es now w queue stands. (other_steps old.displays es (kept queue old) stands).focuses now w display channel keys)
 
 -- a request that leaves the focus sends nobody anything
-pub quiet_request : (f g : FocusState) (display lost gained : ℕ) (channel : Option ℕ)
-    → g ≡ record { requested = slice_set f.requested display channel; last = display; focusable = f.focusable }
-    → LeavesFocus display channel f
+pub quiet_request : (f g : FocusState) (display lost gained : ℕ) (channel : Option ℕ) (keys : Bool)
+    → g ≡ after_request display channel keys f
+    → LeavesFocus display channel keys f
     → IsOnlyIn lost (is_focused (focus_of f)) (is_focused (focus_of g))
     → IsOnlyIn gained (is_focused (focus_of g)) (is_focused (focus_of f))
     → ((w : ℕ) → mask_has lost w ≡ false) × ((w : ℕ) → mask_has gained w ≡ false) × (target_of g ≡ target_of f)
-quiet_request f g display lost gained channel is leaves l h =
+quiet_request f g display lost gained channel keys is leaves l h =
     let same : (w : ℕ) → is_focused (focus_of g) w ≡ is_focused (focus_of f) w = λ w. ap (λ x. is_focused (focus_of x) w) is ∙ leaves.0 w in (
       λ w. l w ∙ ap (λ b. is_focused (focus_of f) w && not b) (same w) ∙ not_both (is_focused (focus_of f) w),
       λ w. h w ∙ ap (λ b. b && not (is_focused (focus_of f) w)) (same w) ∙ not_both (is_focused (focus_of f) w),

@@ -174,7 +174,7 @@ stay (Tick at) (Named mask) now t e =
     record { as_many = refl; channels = refl; inputs = refl; untouched = λ c. refl; live_is = refl; able_is = λ f. refl; noted_is = refl; was_live = λ c b x. x }
 stay (Windows at shown) Done now t e =
     record { as_many = refl; channels = refl; inputs = refl; untouched = λ c. refl; live_is = refl; able_is = λ f. refl; noted_is = refl; was_live = λ c b x. x }
-stay (FocusOn at y k) Done now t e =
+stay (FocusOn at y k keys) Done now t e =
     record { as_many = refl; channels = refl; inputs = refl; untouched = λ c. refl; live_is = refl; able_is = λ f. refl; noted_is = refl; was_live = λ c b x. x }
 stay (Pump at) Dispatched now t e =
     record { as_many = refl; channels = refl; inputs = refl; untouched = λ c. refl; live_is = refl; able_is = λ f. refl; noted_is = refl; was_live = λ c b x. x }

@@ -15,7 +15,7 @@ abbrev pub MasksAre : List ℕ → History → Type 0
 MasksAre masks h = (y c : ℕ) → y < 4 → may_by masks y c ≡ may_focus h y c
 
 -- what is kept is the focus after a history with these effects: for each of four displays the channel last requested,
--- the display of the last request, and the channels that may have the focus of each
+-- the display to which keys were last taken, and the channels that may have the focus of each
 pub record FocusIs (es : List Effect) (f : FocusState) : Type 0 where
   pub four : length f.requested ≡ 4
   pub requested_are : (y : ℕ) → y < 4 → slice_index_or f.requested y None ≡ requested (past_of es) y
@@ -25,7 +25,7 @@ pub record FocusIs (es : List Effect) (f : FocusState) : Type 0 where
 
 -- the call requests the focus of a display
 abbrev pub is_request : Call → Bool
-is_request (FocusOn now display channel) = true
+is_request (FocusOn now display channel keys) = true
 is_request call = false
 
 -- the call leaves the focus as it is: it is neither a focus request nor a snapshot, and neither opens nor removes a

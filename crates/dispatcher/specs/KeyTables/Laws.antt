@@ -1,9 +1,9 @@
 -- Proved facts about what is kept of the focus, of keys and of repeats. Each law is the clause of a function of its
 -- own.
-use Rattle.std.specs.Prelude.{◌≡◌, ◌<◌, ℕ, true, false, List, [], ◌∷◌, ◌++◌, map, Option, Some, None, Bool, ◌&&◌, replicate, slice_set}
+use Rattle.std.specs.Prelude.{◌≡◌, ◌<◌, ℕ, true, false, List, [], ◌∷◌, ◌++◌, map, Option, Some, None, Bool, ◌&&◌, replicate}
 use Rattle.window_snapshot.specs.Mask.{mask_has}
 use Rattle.window_snapshot.specs.Named.{is_focusable_on}
-use Rattle.focus_resolver.specs.Resolver.{FocusState, may_by, focus_of, target_of, is_focused}
+use Rattle.focus_resolver.specs.Resolver.{FocusState, after_request, may_by, focus_of, target_of, is_focused}
 use Rattle.focus_resolver.specs.Changes.{IsOnlyIn}
 use Rattle.dispatch_calls.specs.declared.call.Call.{Call}
 use Rattle.dispatch_calls.specs.declared.call.Call.TheVariants.{FocusOn}
@@ -40,14 +40,14 @@ FocusRead =
     × ((w : ℕ) → is_focused (focus_of f) w ≡ has_focus (past_of es) w)
     × (target_of f ≡ key_target (past_of es))
 
--- A request sets the channel requested for its display, which becomes the display of the last request.
+-- A request sets the channel requested for its display, and takes keys there if it says so.
 abbrev pub FocusRequested : Type 0
 FocusRequested =
-    (displays : List ℕ) (now display : ℕ) (channel : Option ℕ) (answer : Reply) (es : List Effect) (f : FocusState)
+    (displays : List ℕ) (now display : ℕ) (channel : Option ℕ) (keys : Bool) (answer : Reply) (es : List Effect) (f : FocusState)
     → display < 4
     → FocusIs es f
-    → FocusIs (step displays (FocusOn now display channel) answer es)
-    (record { requested = slice_set f.requested display channel; last = display; focusable = f.focusable })
+    → FocusIs (step displays (FocusOn now display channel keys) answer es)
+    (after_request display channel keys f)
 
 -- Any other step changes at most the channels that may have the focus.
 abbrev pub FocusShown : Type 0

@@ -26,22 +26,31 @@ impl Dispatcher {
         Ok(reply)
     }
 
-    /// Requests the focus of a display for a channel, or for none. Keys go to the focused window of the display of the
-    /// last request. Out of memory changes nothing; a request that changes no focus needs none.
+    /// Requests the focus of a display for a channel, or for none. If `keys` is set, keys go to the focused window of
+    /// this display from now on; if not, they go where they went. Out of memory changes nothing; a request that
+    /// changes no focus needs none.
     pub fn request(
         &mut self,
         now: Moment,
         display: DisplayId,
         channel: Option<u32>,
+        keys: bool,
     ) -> Result<Reply, AllocError>
-        ensures ok { IfOk result (λ answer. Answers (FocusOn now display channel) answer self.old self.new) }
+        ensures ok { IfOk result (λ answer. Answers (FocusOn now display channel keys) answer self.old self.new) }
         ensures err { OnErr result (self.new ≡ self.old) }
-        ensures calm { AnswersCalm (FocusOn now display channel) self.old result }
+        ensures calm { AnswersCalm (FocusOn now display channel keys) self.old result }
     {
         self.tables.queueing.may_step()?;
         let clock = now.later(self.tables.queueing.clock());
         let place = self.tables.queueing.place();
-        let reply = request(&mut self.tables.routing, display, channel, place, clock)?;
+        let reply = request(
+            &mut self.tables.routing,
+            display,
+            channel,
+            keys,
+            place,
+            clock,
+        )?;
         self.tables.queueing.go_on(now);
         Ok(reply)
     }

@@ -9,6 +9,7 @@ returns-in_err-refocus-clause-calm c =
     let lt : c.args.display < 4 = omega (arith, c.get-number.ensures.value, c.get-number.ensures.range) in
     let q =
     quiet_request c.args.routing.now.focus c.request-change.new.self c.args.display c.request-change.result.lost c.request-change.result.gained c.args.channel
+    c.args.keys
     c.request-change.ensures.state
     (leaves lt)
     c.request-change.ensures.lost
@@ -25,6 +26,7 @@ returns-clause-ok c =
     request_goes c.args.routing.now c.refocus.new.routing c.args.place c.args.clock c.args.display c.request-change.result.lost c.request-change.result.gained
     c.args.channel
     c.request-change.result.target
+    c.args.keys
     c.request-change.new.self
     lt
     c.in_ok-refocus.ensures.ok

@@ -21,7 +21,7 @@ returns-clause-known c es st =
     let now = c.args.now in
     let y = c.args.display in
     let channel = c.args.channel in
-    let call = FocusOn now y channel in
+    let call = FocusOn now y channel c.args.keys in
     let text = c.args.lines.now.items in
     let t = c.later-clock.result in
     let later = c.take_step.new.dispatcher in
@@ -45,7 +45,7 @@ returns-clause-known c es st =
     ∙ more_lines t (asked ∷ []) gone text))
     (λ a.
     ap (λ ws. asked ∷ ws)
-    (refocused ds es now y channel p.0 old st.lawful lawful (sym (c.target-target.ensures es st))))))
+    (refocused ds es now y channel c.args.keys p.0 old st.lawful lawful (sym (c.target-target.ensures es st))))))
 
 pub returns-clause-made : goal.returns-clause-made
 returns-clause-made c = made_so c.after_call-2.result c.add_changes.result _ _ _ c.after_call-2.ensures c.in_ok-take_step.ensures.ok

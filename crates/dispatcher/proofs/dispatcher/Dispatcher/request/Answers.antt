@@ -16,7 +16,7 @@ request-requires c =
 
 pub returns-clause-ok : goal.returns-clause-ok
 returns-clause-ok c =
-    passed c.self.inside.tables c.go_on.new.self c.request.new.routing c.args.self.now c.self.view_is (λ now. FocusOn now c.args.display c.args.channel) c.in_ok-reply.reply c.args.now c.place-place.result c.later-clock.result
+    passed c.self.inside.tables c.go_on.new.self c.request.new.routing c.args.self.now c.self.view_is (λ now. FocusOn now c.args.display c.args.channel c.args.keys) c.in_ok-reply.reply c.args.now c.place-place.result c.later-clock.result
     refl
     refl
     (c.later-clock.ensures ∙ ap (λ n. max c.args.now n) c.clock.ensures)
@@ -26,7 +26,7 @@ returns-clause-ok c =
 
 pub invariant_of-self-2 : goal.invariant_of-self-2
 invariant_of-self-2 c =
-    passed_holds c.self.inside.tables c.go_on.new.self c.request.new.routing c.self.invariant.0 (λ now. FocusOn now c.args.display c.args.channel) c.in_ok-reply.reply c.args.now c.place-place.result c.later-clock.result
+    passed_holds c.self.inside.tables c.go_on.new.self c.request.new.routing c.self.invariant.0 (λ now. FocusOn now c.args.display c.args.channel c.args.keys) c.in_ok-reply.reply c.args.now c.place-place.result c.later-clock.result
     refl
     refl
     (c.later-clock.ensures ∙ ap (λ n. max c.args.now n) c.clock.ensures)
@@ -42,7 +42,7 @@ invariant_of-self c = same_holds c.self.inside.tables c.request.new.routing c.in
 
 pub returns-in_err-reply-clause-calm : goal.returns-in_err-reply-clause-calm
 returns-in_err-reply-clause-calm c es s few calm =
-    absurd (true≢false (sym (c.in_err-reply.ensures.calm (calm_request es c.self.inside.tables.queueing c.self.inside.tables.routing c.args.now c.args.display c.args.channel (raw es c.self.inside.tables (subst (IsAfter es) (sym c.self.view_is) s)) calm))))
+    absurd (true≢false (sym (c.in_err-reply.ensures.calm (calm_request es c.self.inside.tables.queueing c.self.inside.tables.routing c.args.now c.args.display c.args.channel c.args.keys (raw es c.self.inside.tables (subst (IsAfter es) (sym c.self.view_is) s)) calm))))
 
 pub returns-in_err-may_step-clause-calm : goal.returns-in_err-may_step-clause-calm
 returns-in_err-may_step-clause-calm c es s few calm =
