@@ -7,7 +7,7 @@ use Rattle.dispatch_history.specs.Effect.{Effect}
 use Rattle.dispatch_history.specs.Legal.{answered}
 use Rattle.live_input.specs.declared.limit.Limited.{Limited}
 use Rattle.live_input.specs.Easing.{Chokes, Eases, IfElse, IsCalm, at_clock}
-use Rattle.live_input.specs.Limit.{are_placed, asked_last, asked_on, askings, eased_by, easings, is_placed, shown_again, walled, wanted_on}
+use Rattle.live_input.specs.Limit.{are_placed, asked_on, askings, eased_by, easings, is_placed, shown_again, walled, wanted_on}
 use Rattle.live_input.specs.Showing.{channel_of}
 use Rattle.live_input.specs.Standing.{LiveIs}
 use Rattle.live_input.specs.Wanted.{Wanted}
@@ -21,21 +21,18 @@ calm_then es s false e k = absurd (true≢false (sym e))
 
 -- where nothing is to be eased, no easing makes a call
 eased_calm : (ds : List ℕ) (now : ℕ) (es : List Effect) (w : Wanted) → w.is_shown ≡ true → are_placed w es ≡ true
-    → eased_by (take 6 (easings ds now w)) es ≡ es
+    → eased_by (take 5 (easings ds now w)) es ≡ es
 eased_calm ds now es w shown placed =
     let p = placed_parts w es placed in
     let step : (y : ℕ) → is_placed w es y ≡ true → asked_on ds now w y es ≡ es =
-    λ y e. ap (λ b. cond b es (answered ds (FocusOn now y (channel_of (wanted_on w y))) es)) e in
+    λ y e. ap (λ b. cond b es (answered ds (FocusOn now y (channel_of (wanted_on w y)) false) es)) e in
     let again : shown_again ds now w es ≡ es =
     ap (λ b. cond b es (answered ds (Windows now (map window_of (walled w.choked w.windows))) es)) shown in
-    let last : asked_last ds now w es ≡ es =
-    ap (λ b. cond b es (answered ds (FocusOn now w.asked (channel_of (wanted_on w w.asked))) es)) p.4 in
     ap (λ fs. eased_by (askings ds now w) fs) again
-    ∙ ap (λ fs. asked_last ds now w (asked_on ds now w 3 (asked_on ds now w 2 (asked_on ds now w 1 fs)))) (step 0 p.0)
-    ∙ ap (λ fs. asked_last ds now w (asked_on ds now w 3 (asked_on ds now w 2 fs))) (step 1 p.1)
-    ∙ ap (λ fs. asked_last ds now w (asked_on ds now w 3 fs)) (step 2 p.2)
-    ∙ ap (asked_last ds now w) (step 3 p.3)
-    ∙ last
+    ∙ ap (λ fs. asked_on ds now w 3 (asked_on ds now w 2 (asked_on ds now w 1 fs))) (step 0 p.0)
+    ∙ ap (λ fs. asked_on ds now w 3 (asked_on ds now w 2 fs)) (step 1 p.1)
+    ∙ ap (asked_on ds now w 3) (step 2 p.2)
+    ∙ step 3 p.3
 
 pub eases_calm : (ds : List ℕ) (now : ℕ) (es : List Effect) (a c : Limited) → Chokes es (at_clock now a) c → IsCalm es c → LiveIs ds es c.live
     → Eases ds now es (Ok tt) a c

@@ -4,19 +4,23 @@ use Rattle.input_types.specs.declared.motion.MotionAction.TheVariants.{Cancel, D
 use Rattle.window_snapshot.specs.declared.window.Window.{Window}
 use Rattle.live_input.specs.declared.client.Client.{Client}
 use Rattle.live_input.specs.declared.windows.ClientWindow.{ClientWindow}
-use Rattle.dispatch_calls.specs.declared.call.Call.TheVariants.{Open, Windows, FocusOn, Receive, Finish}
+use Rattle.input_types.specs.declared.message.Args.TheVariants.{Key as KeyArgs}
+use Rattle.dispatch_calls.specs.declared.call.Call.TheVariants.{Open, Windows, FocusOn, Pump, Receive, Finish}
 use Rattle.dispatch_history.specs.Effect.{Effect, past_of, stream}
 use Rattle.dispatch_history.specs.Focus.{asked, focus, requested}
 use Rattle.dispatch_history.specs.History.{snapshot}
+use Rattle.dispatch_history.specs.Keys.{keys}
 use Rattle.dispatch_history.specs.Legal.{run}
 use Rattle.dispatch_history.specs.Ordered.{extend}
-use Rattle.dispatch_history.proofs.Worked.{usual, at, focused, motion, moved, one_display, says, window}
+use Rattle.dispatch_history.proofs.Worked.{usual, at, dispatch, focused, key, motion, moved, one_display, says, two_displays, window}
 use Rattle.live_input.specs.declared.client.Seat.{Seat}
 use Rattle.live_input.specs.Wanted.{Wanted}
-use Rattle.live_input.specs.Limit.{eased, is_choked, walled, without_client}
+use Rattle.live_input.specs.Limit.{eased, is_choked, unreceived, walled, without_client}
 use Rattle.live_input.specs.Options.{no_options}
 use Rattle.live_input.specs.Seats.{taken_by, vacant, with_seat}
+use Rattle.live_input.specs.Settling.{next_due}
 use Rattle.live_input.specs.Windows.{window_of}
+use Rattle.live_input.proofs.Closed.{lower, shift, shift_held, upper}
 
 abbrev first : Client
 first = record { channel = 1; generation = 1 }
@@ -25,24 +29,26 @@ first = record { channel = 1; generation = 1 }
 abbrev whole : (channel flags : ℕ) → Window
 whole c f = window c f 0 0 1080 2400
 
-abbrev of_client : (channel flags : ℕ) → ClientWindow
-of_client c f =
-    let v = whole c f in
+abbrev by_client : Window → ClientWindow
+by_client v =
     record {
-      client = Some (record { channel = c; generation = c });
+      client = Some (record { channel = v.channel; generation = v.channel });
       info = record { display = v.display; frame = v.frame; region = v.region; flags = v.flags; owner = v.owner; opacity = v.opacity; occlusion = v.occlusion };
     }
+
+abbrev of_client : (channel flags : ℕ) → ClientWindow
+of_client c f = by_client (whole c f)
 
 abbrev one_client : List Seat
 one_client = with_seat 1 (taken_by 1 0 no_options) (replicate 64 vacant)
 
 -- what the program wants: the window, and the focus for it; by whether the client is choked, as a mask, and whether that is shown
 abbrev wants : (choked : ℕ) → (is_shown : Bool) → Wanted
-wants choked is_shown = record { most = 1; windows = of_client 1 0 ∷ []; requested = Some first ∷ None ∷ None ∷ None ∷ []; asked = 0; choked = choked; is_shown = is_shown }
+wants choked is_shown = record { most = 1; windows = of_client 1 0 ∷ []; requested = Some first ∷ None ∷ None ∷ None ∷ []; choked = choked; is_shown = is_shown }
 
 -- The client has the focus, and a finger goes down in its window: two messages, of which it received the first.
 abbrev held : List Effect
-held = run one_display (reverse (Open usual ∷ Windows 0 (whole 1 0 ∷ []) ∷ FocusOn 0 0 (Some 1) ∷ Receive 1 ∷ [] ++ moved 1000 Down 0 (at 0 540 1200 ∷ [])))
+held = run one_display (reverse (Open usual ∷ Windows 0 (whole 1 0 ∷ []) ∷ FocusOn 0 0 (Some 1) true ∷ Receive 1 ∷ [] ++ moved 1000 Down 0 (at 0 540 1200 ∷ [])))
 
 one_message_is_no_more_than_one : is_choked 1 0 one_client held 1 ≡ false
 one_message_is_no_more_than_one = refl
@@ -66,6 +72,10 @@ it_loses_the_finger_and_the_focus :
     ≡ focused 5 3000 false ∷ says 4 3000 (motion Cancel 0 (at 0 540 1300 ∷ [])) ∷ says 3 2000 (motion Move 0 (at 0 540 1300 ∷ []))
     ∷ says 2 1000 (motion Down 0 (at 0 540 1200 ∷ [])) ∷ focused 1 0 true ∷ []
 it_loses_the_finger_and_the_focus = refl
+
+-- With a limit of one it has four messages to receive: those of one easing are two of them.
+four_are_unreceived : unreceived after_it 1 ≡ 4
+four_are_unreceived = refl
 
 nobody_has_the_focus : focus (past_of after_it) 0 ≡ None
 nobody_has_the_focus = refl
@@ -118,10 +128,10 @@ abbrev second : Client
 second = record { channel = 2; generation = 2 }
 
 abbrev two : List Effect
-two = run one_display (reverse (Open usual ∷ Open usual ∷ FocusOn 0 0 (Some 1) ∷ FocusOn 0 1 (Some 2) ∷ []))
+two = run one_display (reverse (Open usual ∷ Open usual ∷ FocusOn 0 0 (Some 1) true ∷ FocusOn 0 1 (Some 2) true ∷ []))
 
 abbrev both : (choked : ℕ) → Wanted
-both choked = record { most = 1; windows = []; requested = Some first ∷ Some second ∷ None ∷ None ∷ []; asked = 1; choked = choked; is_shown = true }
+both choked = record { most = 1; windows = []; requested = Some first ∷ Some second ∷ None ∷ None ∷ []; choked = choked; is_shown = true }
 
 -- The first is choked: nobody is to have the focus of display 0, and keys stay on display 1.
 abbrev alone : List Effect
@@ -143,6 +153,32 @@ its_request_is_back = refl
 keys_stay_there_still : asked (past_of (eased one_display 20 (both 0) alone)) ≡ 1
 keys_stay_there_still = refl
 
+-- Shift is held in the window of channel 1 on display 0, as in the rows of a client that is closed. The client of channel 2, with a
+-- window on display 1, is choked.
+abbrev beside : List Effect
+beside =
+    eased two_displays 2000
+    (record {
+      most = 0;
+      windows = by_client lower ∷ by_client upper ∷ [];
+      requested = Some first ∷ Some second ∷ None ∷ None ∷ [];
+      choked = 2;
+      is_shown = false;
+    })
+    shift_held
+
+its_own_request_is_for_nobody : requested (past_of beside) 1 ≡ None
+its_own_request_is_for_nobody = refl
+
+keys_go_where_they_went : asked (past_of beside) ≡ 0
+keys_go_where_they_went = refl
+
+shift_is_held_still : keys beside 1 ≡ shift true ∷ []
+shift_is_held_still = refl
+
+the_other_client_is_sent_nothing : stream beside 1 ≡ stream shift_held 1
+the_other_client_is_sent_nothing = refl
+
 -- A client that goes is wanted nowhere. Its window was shown, so the windows must be shown again.
 nothing_is_wanted_for_it :
     without_client 1
@@ -150,13 +186,31 @@ nothing_is_wanted_for_it :
       most = 1;
       windows = of_client 2 0 ∷ of_client 1 0 ∷ [];
       requested = Some first ∷ Some second ∷ None ∷ Some first ∷ [];
-      asked = 1;
       choked = 1;
       is_shown = true;
     })
-    ≡ record { most = 1; windows = of_client 2 0 ∷ []; requested = None ∷ Some second ∷ None ∷ None ∷ []; asked = 1; choked = 1; is_shown = false }
+    ≡ record { most = 1; windows = of_client 2 0 ∷ []; requested = None ∷ Some second ∷ None ∷ None ∷ []; choked = 1; is_shown = false }
 nothing_is_wanted_for_it = refl
 
 -- One without a window leaves them shown.
 another_leaves_them_shown : without_client 3 (wants 0 true) ≡ wants 0 true
 another_leaves_them_shown = refl
+
+-- The client holds a key and has one message to receive, which is not too many. At a second the key would have been repeated
+-- eleven times, at 501000 first.
+abbrev key_held : List Effect
+key_held =
+    run one_display (reverse (Open usual ∷ Windows 0 (whole 1 0 ∷ []) ∷ FocusOn 0 0 (Some 1) true ∷ Receive 1 ∷ [] ++ dispatch 1000 (KeyArgs (key 30 30 true))))
+
+the_first_repeat_is_due : next_due 1000000 key_held ≡ Some (Pump 501000)
+the_first_repeat_is_due = refl
+
+-- With that it has too many, so it is choked before the next one, and nothing is due any more.
+abbrev repeated_once : List Effect
+repeated_once = extend one_display key_held (Pump 501000 ∷ [])
+
+one_repeat_is_too_many : is_choked 1 0 one_client repeated_once 1 ≡ true
+one_repeat_is_too_many = refl
+
+no_other_repeat_is_due : next_due 1000000 (eased one_display 1000000 (wants 1 false) repeated_once) ≡ None
+no_other_repeat_is_due = refl

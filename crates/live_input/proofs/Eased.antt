@@ -1,19 +1,18 @@
 -- The steps of easing, one after another.
-use Rattle.std.proofs.Common.{◌≡◌, ℕ, zero, suc, ◌<◌, ◌≤◌, ◌==◌, ◌&&◌, ◌||◌, Bool, true, false, cond, List, map, take, Option, refl, sym, ap, ap₂, ◌∙◌, subst, arith}
+use Rattle.std.proofs.Common.{◌≡◌, ℕ, zero, suc, ◌<◌, ◌≤◌, ◌&&◌, ◌||◌, Bool, true, false, cond, List, map, take, Option, refl, sym, ap, ap₂, ◌∙◌, subst, arith}
 use Rattle.std.specs.Prelude.{Result, Ok, Err, OnOk, OnErr}
 use Rattle.std.specs.declared.alloc.AllocError.{AllocError}
 use Rattle.std.proofs.lemmas.Bool.{and_parts, lt-ltb, true≢false}
 use Rattle.window_snapshot.specs.Mask.{mask_has}
 use Rattle.dispatch_calls.specs.declared.call.Call.TheVariants.{Windows, FocusOn}
-use Rattle.dispatch_history.specs.Effect.{Effect, past_of}
-use Rattle.dispatch_history.specs.Focus.{asked}
+use Rattle.dispatch_history.specs.Effect.{Effect}
 use Rattle.dispatch_history.specs.Legal.{answered}
 use Rattle.live_input.specs.declared.client.Client.{Client}
 use Rattle.live_input.specs.declared.limit.Limited.{Limited}
 use Rattle.live_input.specs.declared.windows.ClientWindow.{ClientWindow}
 use Rattle.live_input.specs.Answers.{SameClients, SameRest}
 use Rattle.live_input.specs.Easing.{AsksWanted, Chokes, Eases, IfElse, IsCalm, KeepsReported, at_clock}
-use Rattle.live_input.specs.Limit.{are_placed, asked_last, asked_on, askings, eased_by, is_choked, is_placed, shown_again, walled, wanted_on}
+use Rattle.live_input.specs.Limit.{are_placed, asked_on, askings, eased_by, is_choked, is_placed, shown_again, walled, wanted_on}
 use Rattle.live_input.specs.Showing.{channel_of}
 use Rattle.live_input.specs.Standing.{LiveIs}
 use Rattle.live_input.specs.State.{LiveState, latest}
@@ -43,20 +42,11 @@ shown_goes ds now w es old new rows same at hidden h =
 -- the focus is requested at the clock
 pub asked_goes : (ds : List ℕ) (now y : ℕ) (w : Wanted) (es : List Effect) (old new : LiveState) (k : Option Client)
     → k ≡ wanted_on w y → old.clock ≡ now → is_placed w es y ≡ false
-    → LiveIs ds (answered ds (FocusOn (latest now old) y (channel_of k)) es) new → LiveIs ds (asked_on ds now w y es) new
+    → LiveIs ds (answered ds (FocusOn (latest now old) y (channel_of k) false) es) new → LiveIs ds (asked_on ds now w y es) new
 asked_goes ds now y w es old new k same at placed h =
-    is_needed ds new (is_placed w es y) es (answered ds (FocusOn now y (channel_of (wanted_on w y))) es) placed
-    (subst (λ o. LiveIs ds (answered ds (FocusOn now y (channel_of o)) es) new) same
-    (subst (λ n. LiveIs ds (answered ds (FocusOn n y (channel_of k)) es) new) (latest_same now old at) h))
-
-pub last_goes : (ds : List ℕ) (now y : ℕ) (w : Wanted) (es : List Effect) (old new : LiveState) (k : Option Client)
-    → y ≡ w.asked → k ≡ wanted_on w w.asked → old.clock ≡ now → (asked (past_of es) == w.asked) ≡ false
-    → LiveIs ds (answered ds (FocusOn (latest now old) y (channel_of k)) es) new → LiveIs ds (asked_last ds now w es) new
-last_goes ds now y w es old new k there same at other h =
-    is_needed ds new (asked (past_of es) == w.asked) es (answered ds (FocusOn now w.asked (channel_of (wanted_on w w.asked))) es) other
-    (subst (λ o. LiveIs ds (answered ds (FocusOn now w.asked (channel_of o)) es) new) same
-    (subst (λ z. LiveIs ds (answered ds (FocusOn now z (channel_of k)) es) new) there
-    (subst (λ n. LiveIs ds (answered ds (FocusOn n y (channel_of k)) es) new) (latest_same now old at) h)))
+    is_needed ds new (is_placed w es y) es (answered ds (FocusOn now y (channel_of (wanted_on w y)) false) es) placed
+    (subst (λ o. LiveIs ds (answered ds (FocusOn now y (channel_of o) false) es) new) same
+    (subst (λ n. LiveIs ds (answered ds (FocusOn n y (channel_of k) false) es) new) (latest_same now old at) h))
 
 -- all else is the same
 pub rest_none : (s : LiveState) → SameRest s s
@@ -131,15 +121,14 @@ pub asks_none : (ds : List ℕ) (now : ℕ) (es : List Effect) (s : Limited) →
     → AsksFirst ds now 0 es s.wanted s.live s
 asks_none ds now es s h at = record { is = h; wanted_is = refl; rest = rest_none s.live; clock_is = at }
 
-one_more : (ds : List ℕ) (now n : ℕ) (es : List Effect) (w : Wanted) → n < 4
+one_more : (ds : List ℕ) (now n : ℕ) (es : List Effect) (w : Wanted) → n < 3
     → asked_on ds now w n (eased_by (take n (askings ds now w)) es) ≡ eased_by (take (suc n) (askings ds now w)) es
 one_more ds now zero es w lt = refl
 one_more ds now (suc zero) es w lt = refl
 one_more ds now (suc (suc zero)) es w lt = refl
-one_more ds now (suc (suc (suc zero))) es w lt = refl
-one_more ds now (suc (suc (suc (suc n)))) es w lt = absurd (omega (arith, lt))
+one_more ds now (suc (suc (suc n))) es w lt = absurd (omega (arith, lt))
 
-pub asks_more : (ds : List ℕ) (now n y : ℕ) (es : List Effect) (w : Wanted) (old : LiveState) (s t : Limited) → n < 4 → y ≡ n
+pub asks_more : (ds : List ℕ) (now n y : ℕ) (es : List Effect) (w : Wanted) (old : LiveState) (s t : Limited) → n < 3 → y ≡ n
     → AsksFirst ds now n es w old s → LiveIs ds (asked_on ds now s.wanted y (eased_by (take n (askings ds now w)) es)) t.live
     → t.wanted ≡ s.wanted → (s.live.clock ≡ now → SameRest s.live t.live) → AsksFirst ds now (suc n) es w old t
 asks_more ds now n y es w old s t lt at r h same rest =
@@ -156,13 +145,14 @@ asks_more ds now n y es w old s t lt at r h same rest =
     }
 
 -- the last one is made, or is not
-pub asks_all : (ds : List ℕ) (now : ℕ) (es : List Effect) (w : Wanted) (old : LiveState) (s t : Limited) (r : Result (Unit {0}) AllocError)
-    → AsksFirst ds now 4 es w old s → OnOk r (LiveIs ds (asked_last ds now s.wanted (eased_by (take 4 (askings ds now w)) es)) t.live)
+pub asks_all : (ds : List ℕ) (now y : ℕ) (es : List Effect) (w : Wanted) (old : LiveState) (s t : Limited) (r : Result (Unit {0}) AllocError) → y ≡ 3
+    → AsksFirst ds now 3 es w old s → OnOk r (LiveIs ds (asked_on ds now s.wanted y (eased_by (take 3 (askings ds now w)) es)) t.live)
     → OnErr r (t ≡ s) → AsksWanted ds now es w r t.live
-asks_all ds now es w old s t (Ok done) a ok err =
-    subst (λ v. LiveIs ds (asked_last ds now v (eased_by (take 4 (askings ds now w)) es)) t.live) a.wanted_is ok
-asks_all ds now es w old s t (Err e) a ok err =
-    (4, subst (λ (x : Limited). LiveIs ds (eased_by (take 4 (askings ds now w)) es) x.live) (sym err) a.is)
+asks_all ds now y es w old s t (Ok done) at a ok err =
+    let fs = eased_by (take 3 (askings ds now w)) es in
+    subst (λ z. LiveIs ds (asked_on ds now w z fs) t.live) at (subst (λ v. LiveIs ds (asked_on ds now v y fs) t.live) a.wanted_is ok)
+asks_all ds now y es w old s t (Err e) at a ok err =
+    (3, subst (λ (x : Limited). LiveIs ds (eased_by (take 3 (askings ds now w)) es) x.live) (sym err) a.is)
 
 -- one is not, after some
 pub asks_some : (ds : List ℕ) (now n : ℕ) (es : List Effect) (w : Wanted) (old : LiveState) (s t : Limited) (r : Result (Unit {0}) AllocError) (e : AllocError)
@@ -174,13 +164,11 @@ asks_some ds now n es w old s t r e failed a same =
 -- where all are requested as wanted
 pub placed_parts : (w : Wanted) (es : List Effect) → are_placed w es ≡ true
     → (is_placed w es 0 ≡ true) × (is_placed w es 1 ≡ true) × (is_placed w es 2 ≡ true) × (is_placed w es 3 ≡ true)
-    × ((asked (past_of es) == w.asked) ≡ true)
 placed_parts w es e =
-    let d = and_parts (is_placed w es 0 && is_placed w es 1 && is_placed w es 2 && is_placed w es 3) (asked (past_of es) == w.asked) e in
-    let c = and_parts (is_placed w es 0 && is_placed w es 1 && is_placed w es 2) (is_placed w es 3) d.0 in
+    let c = and_parts (is_placed w es 0 && is_placed w es 1 && is_placed w es 2) (is_placed w es 3) e in
     let b = and_parts (is_placed w es 0 && is_placed w es 1) (is_placed w es 2) c.0 in
     let a = and_parts (is_placed w es 0) (is_placed w es 1) b.0 in
-    (a.0, a.1, b.1, c.1, d.1)
+    (a.0, a.1, b.1, c.1)
 
 pub calm_next : (ds : List ℕ) (es : List Effect) (s t : Limited) (y z : ℕ) → t ≡ s → y ≡ z → LiveIs ds es s.live → is_placed s.wanted es z ≡ true
     → LiveIs ds es t.live × (is_placed t.wanted es y ≡ true)
@@ -268,11 +256,9 @@ named_then old raised choked new e keeps same = λ c is.
     ap (λ n. mask_has n c) same ∙ keeps c (ap (λ n. mask_has n c) e ∙ is)
 
 -- the requests are compared one after another
-pub placed_all : (w : Wanted) (es : List Effect) (a b c d l : Bool) (x y z u : ℕ) → x ≡ 0 → y ≡ 1 → z ≡ 2 → u ≡ 3 → a ≡ is_placed w es x → b ≡ is_placed w es y
-    → c ≡ is_placed w es z → d ≡ is_placed w es u → l ≡ (asked (past_of es) == w.asked) → (a && b && c && d && l) ≡ are_placed w es
-placed_all w es a b c d l x y z u ex ey ez eu ea eb ec ed el =
+pub placed_all : (w : Wanted) (es : List Effect) (a b c d : Bool) (x y z u : ℕ) → x ≡ 0 → y ≡ 1 → z ≡ 2 → u ≡ 3 → a ≡ is_placed w es x → b ≡ is_placed w es y
+    → c ≡ is_placed w es z → d ≡ is_placed w es u → (a && b && c && d) ≡ are_placed w es
+placed_all w es a b c d x y z u ex ey ez eu ea eb ec ed =
     ap₂ (λ m n. m && n)
-    (ap₂ (λ m n. m && n)
     (ap₂ (λ m n. m && n) (ap₂ (λ m n. m && n) (ea ∙ ap (is_placed w es) ex) (eb ∙ ap (is_placed w es) ey)) (ec ∙ ap (is_placed w es) ez))
-    (ed ∙ ap (is_placed w es) eu))
-    el
+    (ed ∙ ap (is_placed w es) eu)

@@ -1,7 +1,7 @@
 -- Nothing remains on a channel.
 use Rattle.std.proofs.Common.{◌≡◌, ℕ, zero, suc, ◌<◌, ◌==◌, ◌||◌, Bool, true, false, not, cond, List, [], ◌∷◌, length, map, Option, Some, None, option_map, refl, sym, ap, ◌∙◌, subst, inl, inr, arith}
 use Rattle.std.specs.Prelude.{nat_le, nat_lt, slice_get}
-use Rattle.std.proofs.lemmas.Bool.{cases_Bool, eq-eqb, eqb-true, or_parts, true≢false, ltb-false, leb-false}
+use Rattle.std.proofs.lemmas.Bool.{cases_Bool, eq-eqb, true≢false, ltb-false, leb-false}
 use Rattle.focus_resolver.specs.Resolver.{is_at}
 use Rattle.dispatcher.specs.InputChannel.Order.{Within}
 use Rattle.input_types.specs.declared.message.Message.{Message}
@@ -11,13 +11,13 @@ use Rattle.dispatch_calls.specs.declared.call.Call.{Call}
 use Rattle.dispatch_calls.specs.declared.call.Call.TheVariants.{Finish, FocusOn, Receive}
 use Rattle.dispatch_history.specs.Delivery.{delivery, published, unfinished}
 use Rattle.dispatch_history.specs.Effect.{Effect, past_of, stream}
-use Rattle.dispatch_history.specs.Focus.{asked, requested}
+use Rattle.dispatch_history.specs.Focus.{requested}
 use Rattle.dispatch_history.specs.History.{received}
 use Rattle.dispatch_history.specs.Legal.{answered}
 use Rattle.dispatcher.specs.DispatchTables.Lawful.{Lawful}
 use Rattle.dispatcher.proofs.DispatchTables.Kept.{channel_law}
 use Rattle.dispatcher.proofs.DispatchTables.Waiting.{with_delivery}
-use Rattle.live_input.specs.Closing.{asked_again, forgotten, forgotten_each, forgotten_on, is_requested, without}
+use Rattle.live_input.specs.Closing.{forgotten, forgotten_on, without}
 use Rattle.live_input.specs.Settling.{left_call, next_left}
 use Rattle.live_input.specs.Standing.{IsDone}
 use Rattle.live_input.proofs.Unshown.{named_filter}
@@ -80,7 +80,7 @@ gone_on : (ds : List ℕ) (now c y : ℕ) (es : List Effect) → is_at (requeste
 gone_on ds now c y es = by_test (is_at (requested (past_of es) y) c) refl
   where
     by_test : (b : Bool) → is_at (requested (past_of es) y) c ≡ b
-        → is_at (requested (past_of (cond b (answered ds (FocusOn now y None) es) es)) y) c ≡ false
+        → is_at (requested (past_of (cond b (answered ds (FocusOn now y None false) es) es)) y) c ≡ false
     by_test true e = ap (λ b. is_at (cond b None (requested (past_of es) y)) c) (eq-eqb y y refl)
     by_test false e = e
 
@@ -92,7 +92,7 @@ stays_on ds now c y z es e = by_test (is_at (requested (past_of es) y) c) (z == 
     by_display true = refl
     by_display false = e
 
-    by_test : (b d : Bool) → is_at (requested (past_of (cond b (answered ds (FocusOn now y None) es) es)) z) c ≡ false
+    by_test : (b d : Bool) → is_at (requested (past_of (cond b (answered ds (FocusOn now y None false) es) es)) z) c ≡ false
     by_test true d = by_display (z == y)
     by_test false d = e
 
@@ -103,38 +103,14 @@ each_of_four p a b c d (suc (suc zero)) low = c
 each_of_four p a b c d (suc (suc (suc zero))) low = d
 each_of_four p a b c d (suc (suc (suc (suc y)))) low = absurd (omega (arith, low))
 
-unasked_each : (ds : List ℕ) (now c : ℕ) (es : List Effect) (y : ℕ) → y < 4 → is_at (requested (past_of (forgotten_each ds now c es)) y) c ≡ false
-unasked_each ds now c es =
+-- then the focus of no display was requested last for it
+pub unasked : (ds : List ℕ) (now c : ℕ) (es : List Effect) (y : ℕ) → y < 4 → is_at (requested (past_of (forgotten ds now c es)) y) c ≡ false
+unasked ds now c es =
     let one = forgotten_on ds now c 0 es in
     let two = forgotten_on ds now c 1 one in
     let three = forgotten_on ds now c 2 two in
-    each_of_four (λ y. is_at (requested (past_of (forgotten_each ds now c es)) y) c)
+    each_of_four (λ y. is_at (requested (past_of (forgotten ds now c es)) y) c)
     (stays_on ds now c 3 0 three (stays_on ds now c 2 0 two (stays_on ds now c 1 0 one (gone_on ds now c 0 es))))
     (stays_on ds now c 3 1 three (stays_on ds now c 2 1 two (gone_on ds now c 1 one)))
     (stays_on ds now c 3 2 three (gone_on ds now c 2 two))
     (gone_on ds now c 3 three)
-
--- then the focus of no display was requested last for it
-pub unasked : (ds : List ℕ) (now c : ℕ) (es : List Effect) (y : ℕ) → y < 4 → is_at (requested (past_of (forgotten ds now c es)) y) c ≡ false
-unasked ds now c es y low = by_test (is_requested es c) refl
-  where
-    p : ℕ → Bool
-    p z = is_at (requested (past_of es) z) c
-
-    fs : List Effect
-    fs = forgotten_each ds now c es
-
-    by_display : (b : Bool) → (y == asked (past_of es)) ≡ b
-        → is_at (cond b (requested (past_of fs) (asked (past_of es))) (requested (past_of fs) y)) c ≡ false
-    by_display true e = ap (λ z. is_at (requested (past_of fs) z) c) (sym (eqb-true y (asked (past_of es)) e)) ∙ unasked_each ds now c es y low
-    by_display false e = unasked_each ds now c es y low
-
-    by_test : (b : Bool) → is_requested es c ≡ b
-        → is_at (requested (past_of (cond b (asked_again ds now (asked (past_of es)) fs) es)) y) c ≡ false
-    by_test true e = by_display (y == asked (past_of es)) refl
-    by_test false e =
-        let a = or_parts (p 0) (p 1 || (p 2 || (p 3 || false))) e in
-        let b = or_parts (p 1) (p 2 || (p 3 || false)) a.1 in
-        let d = or_parts (p 2) (p 3 || false) b.1 in
-        let f = or_parts (p 3) false d.1 in
-        each_of_four p a.0 b.0 d.0 f.0 y low

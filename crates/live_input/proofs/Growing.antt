@@ -1,5 +1,5 @@
 -- How many messages a call of the dispatcher sends to one client at most.
-use Rattle.std.proofs.Common.{◌≡◌, ℕ, suc, ◌+◌, ◌*◌, ◌≤◌, ◌==◌, ◌&&◌, Bool, true, false, not, cond, List, [], ◌∷◌, ◌++◌, length, map, Option, Some, None, refl, ap, ◌∙◌, arith, length-append}
+use Rattle.std.proofs.Common.{◌≡◌, ℕ, suc, ◌+◌, ◌*◌, ◌≤◌, ◌==◌, ◌&&◌, Bool, true, false, not, cond, List, [], ◌∷◌, ◌++◌, length, map, Option, Some, None, refl, sym, ap, ◌∙◌, subst, arith, length-append}
 use Rattle.std.specs.List.{filter, flat_map, list_any}
 use Rattle.std.proofs.lemmas.List.{length-map}
 use Rattle.std.proofs.lemmas.List.Filters.{length-filter_both}
@@ -24,10 +24,10 @@ use Rattle.dispatch_calls.specs.declared.call.Call.TheVariants.{Pump, Receive}
 use Rattle.dispatch_calls.specs.declared.reply.Reply.{Reply}
 use Rattle.dispatch_calls.specs.declared.reply.Reply.TheVariants.{Got, Repeated}
 use Rattle.dispatch_history.specs.Delivery.{able}
-use Rattle.dispatch_history.specs.Effect.{Effect, last, last_after, past_of, stream}
-use Rattle.dispatch_history.specs.Effects.{said_at}
+use Rattle.dispatch_history.specs.Effect.{Effect, last, last_after, past_of, sent_to, stream}
+use Rattle.dispatch_history.specs.Effects.{effect_of, said_at}
 use Rattle.dispatch_history.specs.Focus.{focus_sent, has_focus, is_target}
-use Rattle.dispatch_history.specs.History.{clock, live, origin, received, received_after}
+use Rattle.dispatch_history.specs.History.{History, clock, live, origin, received, received_after, snapshot}
 use Rattle.dispatch_history.specs.Keys.{ends, goes_down, is_before, key_given, keys, loses_all, same_key, with_key}
 use Rattle.dispatch_history.specs.KeySent.{key_as_is, key_cancelled, keys_sent, last_key, repeat_sent}
 use Rattle.dispatch_history.specs.Legal.{answered}
@@ -36,7 +36,6 @@ use Rattle.dispatch_history.specs.Queue.{args_of, inbound}
 use Rattle.dispatch_history.specs.Reply.{reply_to}
 use Rattle.dispatch_history.specs.Said.{keys_said, motion_from, motions_said}
 use Rattle.dispatch_history.specs.Step.{marks, scene, step_of}
-use Rattle.dispatch_history.specs.History.{snapshot}
 use Rattle.dispatcher.specs.DispatchTables.Lawful.{Lawful}
 use Rattle.dispatcher.proofs.DispatchTables.Channels.{sound, stepped}
 use Rattle.dispatcher.proofs.DispatchTables.Lawfuls.{lawful_last, lawful_step}
@@ -241,12 +240,12 @@ step_grows ds call es c l few =
     (length (keys es c)) motions (omega (arith, as_many, messages)) (focus_few (has_focus past c) (has_focus ((call, answer) ∷ past) c)) in
     omega (arith, longer, all)
 
-few_first : (ds : List ℕ) (es : List Effect) (calls : List Call) → AllFew (extend ds es calls) → AllFew es
+pub few_first : (ds : List ℕ) (es : List Effect) (calls : List Call) → AllFew (extend ds es calls) → AllFew es
 few_first ds es [] few = few
 few_first ds es (k ∷ ks) few = (few_first ds (answered ds k es) ks few).1
 
 -- and so do several
-all_grow : (ds : List ℕ) (es : List Effect) (calls : List Call) (c : ℕ) → Lawful ds es → AllFew (extend ds es calls)
+pub all_grow : (ds : List ℕ) (es : List Effect) (calls : List Call) (c : ℕ) → Lawful ds es → AllFew (extend ds es calls)
     → length (stream (extend ds es calls) c) + length (keys (extend ds es calls) c) ≤ length (stream es c) + length (keys es c) + 131 * length calls
 all_grow ds es [] c l few = omega arith
 all_grow ds es (k ∷ ks) c l few =
@@ -264,12 +263,34 @@ received_more (Receive k) (Got m) c n = by_channel (c == k)
     by_channel false = omega arith
 received_more call answer c n = omega arith
 
-all_received : (ds : List ℕ) (es : List Effect) (calls : List Call) (c : ℕ) → received (past_of es) c ≤ received (past_of (extend ds es calls)) c
+pub all_received : (ds : List ℕ) (es : List Effect) (calls : List Call) (c : ℕ) → received (past_of es) c ≤ received (past_of (extend ds es calls)) c
 all_received ds es [] c = omega arith
 all_received ds es (k ∷ ks) c =
     let here = received_more k (reply_to es k) c (received (past_of es) c) in
     let more = all_received ds (answered ds k es) ks c in
     omega (arith, here, more)
+
+-- a call that dispatches no args gives no key to a window
+pub kept_keys : (ds : List ℕ) (call : Call) (es : List Effect) (c : ℕ) → args_of call (reply_to es call) (inbound (past_of es)) ≡ None
+    → length (keys (answered ds call es) c) ≤ length (keys es c)
+kept_keys ds call es c none =
+    let after : History = (call, reply_to es call) ∷ past_of es in
+    let gets = is_target (past_of es) c && able es c in
+    let loses = loses_all after (past_of es) c in
+    let held = keys es c in
+    let few = none_modest gets loses held in
+    subst (λ o. length (key_given (goes_down o) gets (cond loses [] (filter (λ k. not (ends o k)) held))) ≤ length held) (sym none) (omega (arith, few))
+
+-- what was sent stays so
+pub streams_grow : (ds : List ℕ) (es : List Effect) (calls : List Call) (c : ℕ) → length (stream es c) ≤ length (stream (extend ds es calls) c)
+streams_grow ds es [] c = omega arith
+streams_grow ds es (k ∷ ks) c =
+    let here = one_grows (effect_of ds k (reply_to es k) (args_of k (reply_to es k) (inbound (past_of es))) es) es c in
+    let more = streams_grow ds (answered ds k es) ks c in
+    omega (arith, here, more)
+  where
+    one_grows : (x : Effect) (before : List Effect) (c : ℕ) → length (stream before c) ≤ length (stream (x ∷ before) c)
+    one_grows x before c = let longer = length-sent_on (clock x.past) (sent_to x.outgoing c) (stream before c) in omega (arith, longer)
 
 pub growth_law : GrowthLaw
 growth_law ds es s most choked c calls h held calm few =

@@ -29,8 +29,8 @@ abbrev focus_moves : List Effect
 focus_moves =
     run one_display
     (reverse
-    (open_two ++ Windows 0 (window 1 0 0 0 540 2400 ∷ window 2 0 540 0 1080 2400 ∷ []) ∷ FocusOn 0 0 (Some 2) ∷ []
-    ++ dispatch 1000 (KeyOfDevice (key 115 24 true)) ++ FocusOn 1500 0 (Some 1) ∷ []))
+    (open_two ++ Windows 0 (window 1 0 0 0 540 2400 ∷ window 2 0 540 0 1080 2400 ∷ []) ∷ FocusOn 0 0 (Some 2) true ∷ []
+    ++ dispatch 1000 (KeyOfDevice (key 115 24 true)) ++ FocusOn 1500 0 (Some 1) true ∷ []))
 
 -- Window 2 is sent its focus, its key, the cancelled up of that and the loss of the focus before window 1 is sent the focus.
 pub the_focus_leaves_a_window_before_it_comes_to_another : handed_out 9 focus_moves ≡ (2, 1) ∷ (2, 2) ∷ (2, 3) ∷ (2, 4) ∷ (1, 1) ∷ []
@@ -42,7 +42,7 @@ one_moment =
     run one_display
     (reverse
     (open_two ++ Windows 0 (window 1 0 0 0 540 2400 ∷ window 2 0 540 0 1080 2400 ∷ []) ∷ []
-    ++ moved 1000 Down 0 (at 0 700 10 ∷ []) ++ FocusOn 1000 0 (Some 2) ∷ FocusOn 1000 0 (Some 1) ∷ FocusOn 1000 0 (Some 2) ∷ []))
+    ++ moved 1000 Down 0 (at 0 700 10 ∷ []) ++ FocusOn 1000 0 (Some 2) true ∷ FocusOn 1000 0 (Some 1) true ∷ FocusOn 1000 0 (Some 2) true ∷ []))
 
 pub equal_moments_do_not_mix_steps : handed_out 9 one_moment ≡ (2, 1) ∷ (2, 2) ∷ (2, 3) ∷ (1, 1) ∷ (1, 2) ∷ (2, 4) ∷ []
 equal_moments_do_not_mix_steps = refl

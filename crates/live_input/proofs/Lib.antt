@@ -23,6 +23,8 @@ pub mod Asked
 pub mod Plugged
 pub mod Reported
 pub mod Taken
+pub mod Leaving
+pub mod Closed
 pub mod Settled
 pub mod Able
 pub mod Fed
@@ -42,6 +44,12 @@ pub mod Eased
 pub mod Calm
 pub mod Growing
 pub mod Quiet
+pub mod Undisturbed
+pub mod Surplus
+pub mod Easings
+pub mod Serving
+pub mod Knowing
+pub mod Stepped
 pub mod Ordering
 pub mod Handouts
 pub mod InOrder

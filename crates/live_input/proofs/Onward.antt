@@ -1,5 +1,5 @@
 -- What goes on from where the service was eased.
-use Rattle.std.proofs.Common.{◌≡◌, ℕ, ◌==◌, ◌&&◌, ◌||◌, Bool, true, false, not, cond, max, map, List, [], ◌∷◌, take, Option, Result, Ok, Err, refl, sym, ap, ◌∙◌, subst, arith}
+use Rattle.std.proofs.Common.{◌≡◌, ℕ, ◌&&◌, ◌||◌, Bool, true, false, not, cond, max, map, List, [], ◌∷◌, take, Option, Result, Ok, Err, refl, sym, ap, ◌∙◌, subst, arith}
 use Rattle.std.specs.Prelude.{OnOk, OnErr}
 use Rattle.std.specs.declared.alloc.AllocError.{AllocError}
 use Rattle.window_snapshot.specs.Mask.{mask_has}
@@ -7,7 +7,7 @@ use Rattle.dispatch_calls.specs.declared.call.Call.TheVariants.{FocusOn, Windows
 use Rattle.raw_events.specs.declared.event.RawEvent.{RawEvent}
 use Rattle.device_reader.specs.Cooked.{DevicePlan}
 use Rattle.dispatch_history.specs.Effect.{Effect, past_of}
-use Rattle.dispatch_history.specs.Focus.{asked, requested}
+use Rattle.dispatch_history.specs.Focus.{requested}
 use Rattle.dispatch_history.specs.Legal.{answered}
 use Rattle.dispatch_history.specs.Queue.{accepted}
 use Rattle.live_input.specs.declared.client.Client.{Client}
@@ -22,7 +22,7 @@ use Rattle.live_input.specs.declared.windows.ClientWindow.{ClientWindow}
 use Rattle.live_input.specs.Answers.{Makes, SameClients, SameSeats}
 use Rattle.live_input.specs.Easing.{EasesPart, GoesEased, at_clock}
 use Rattle.live_input.specs.Fingers.{Planned, SameHolders, TouchGoesAtOnce}
-use Rattle.live_input.specs.Limit.{asked_last, asked_on, eased_by, easings, is_same, shown_again, unless_choked, walled, wanted_on, with_request, with_windows}
+use Rattle.live_input.specs.Limit.{asked_on, eased_by, easings, is_same, shown_again, unless_choked, walled, wanted_on, with_request, with_windows}
 use Rattle.live_input.specs.LimitedCalls.{Accepts, AsksEased, ReportsChoked, ShowsEased, ShowsOrNot}
 use Rattle.live_input.specs.Slots.{fingers_of}
 use Rattle.live_input.specs.Showing.{channel_of, may_ask}
@@ -32,18 +32,18 @@ use Rattle.live_input.specs.Wanted.{Wanted}
 use Rattle.live_input.specs.Windows.{window_of}
 use Rattle.live_input.proofs.Handing.{live_later}
 
--- there are six easings
-all_of : (ds : List ℕ) (now : ℕ) (w : Wanted) → take 6 (easings ds now w) ≡ easings ds now w
+-- there are five easings
+all_of : (ds : List ℕ) (now : ℕ) (w : Wanted) → take 5 (easings ds now w) ≡ easings ds now w
 all_of ds now w = refl
 
 -- the history that easing leads to
-pub eased_is : (ds : List ℕ) (now : ℕ) (es : List Effect) (old eased : Limited) (x : EasesPart ds now 6 es old eased)
+pub eased_is : (ds : List ℕ) (now : ℕ) (es : List Effect) (old eased : Limited) (x : EasesPart ds now 5 es old eased)
     → LiveIs ds (eased_by (easings ds now x.choked.wanted) es) eased.live
 eased_is ds now es old eased x = subst (λ steps. LiveIs ds (eased_by steps es) eased.live) (all_of ds now x.choked.wanted) x.is
 
 -- a call goes from there
 pub eased_then : (ds : List ℕ) (now : ℕ) (es : List Effect) (old eased : Limited) (Goes : List Effect → Limited → Type 0)
-    → (eased.wanted.is_shown ≡ true) × EasesPart ds now 6 es old eased
+    → (eased.wanted.is_shown ≡ true) × EasesPart ds now 5 es old eased
     → ((fs : List Effect) → LiveIs ds fs eased.live → Goes fs eased) → GoesEased ds now es old Goes
 eased_then ds now es old eased Goes x f =
     record {
@@ -142,7 +142,7 @@ shown_keeps ds now w es = by_test w.is_shown
     by_test false = refl
 
 asks_keep : (ds : List ℕ) (now y : ℕ) (k : Option ℕ) (es : List Effect) (b : Bool)
-    → accepted (past_of (cond b es (answered ds (FocusOn now y k) es))) ≡ accepted (past_of es)
+    → accepted (past_of (cond b es (answered ds (FocusOn now y k false) es))) ≡ accepted (past_of es)
 asks_keep ds now y k es true = refl
 asks_keep ds now y k es false = refl
 
@@ -150,27 +150,24 @@ on_keeps : (ds : List ℕ) (now : ℕ) (w : Wanted) (y : ℕ) → Keeps (asked_o
 on_keeps ds now w y es =
     let k = channel_of (wanted_on w y) in asks_keep ds now y k es (is_same (requested (past_of es) y) k)
 
-last_keeps : (ds : List ℕ) (now : ℕ) (w : Wanted) → Keeps (asked_last ds now w)
-last_keeps ds now w es = asks_keep ds now w.asked (channel_of (wanted_on w w.asked)) es (asked (past_of es) == w.asked)
-
 -- what the history accepted is the same
 pub eased_accepted : (ds : List ℕ) (now : ℕ) (w : Wanted) (es : List Effect)
     → accepted (past_of (eased_by (easings ds now w) es)) ≡ accepted (past_of es)
 eased_accepted ds now w es =
     kept_by (easings ds now w)
-    (shown_keeps ds now w, (on_keeps ds now w 0, (on_keeps ds now w 1, (on_keeps ds now w 2, (on_keeps ds now w 3, (last_keeps ds now w, tt)))))) es
+    (shown_keeps ds now w, (on_keeps ds now w 0, (on_keeps ds now w 1, (on_keeps ds now w 2, (on_keeps ds now w 3, tt))))) es
 
 -- ---- windows and requests, by how they went
 
 pub shows_then : (ds : List ℕ) (now : ℕ) (es : List Effect) (ws : List ClientWindow) (r : Result (Unit {0}) AllocError) (old eased new : Limited)
-    → (eased.wanted.is_shown ≡ true) × EasesPart ds now 6 es old eased
+    → (eased.wanted.is_shown ≡ true) × EasesPart ds now 5 es old eased
     → ((fs : List Effect) → LiveIs ds fs eased.live → OnOk r (Makes ds fs (Windows now (map window_of (walled eased.wanted.choked ws))) new.live))
     → OnOk r (new.wanted ≡ with_windows ws eased.wanted) → OnErr r (new ≡ eased) → ShowsOrNot ds now ws es r old new
 shows_then ds now es ws (Ok done) old eased new x f w e =
     eased_then ds now es old eased
     (λ fs s. Makes ds fs (Windows now (map window_of (walled s.wanted.choked ws))) new.live × (new.wanted ≡ with_windows ws s.wanted)) x
     (λ fs there. (f fs there, w))
-shows_then ds now es ws (Err error) old eased new x f w e = (6, subst (λ s. EasesPart ds now 6 es old s) (sym e) x.1)
+shows_then ds now es ws (Err error) old eased new x f w e = (5, subst (λ s. EasesPart ds now 5 es old s) (sym e) x.1)
 
 -- windows that are refused leave all as it was
 pub refused_as : (ds : List ℕ) (now : ℕ) (ws : List ClientWindow) (es : List Effect) (error : WindowsRefused) (old : Limited)
@@ -181,15 +178,15 @@ refused_as ds now ws es (Twice c) old a = (a.0, a.1, refl)
 refused_as ds now ws es Memory old a = absurd a
 
 pub asks_then : (ds : List ℕ) (now y : ℕ) (client : Option Client) (es : List Effect) (r : Result (Unit {0}) FocusRefused) (old eased new : Limited)
-    → may_ask old.live.seats client ≡ true → (eased.wanted.is_shown ≡ true) × EasesPart ds now 6 es old eased
+    → may_ask old.live.seats client ≡ true → (eased.wanted.is_shown ≡ true) × EasesPart ds now 5 es old eased
     → ((fs : List Effect) → LiveIs ds fs eased.live
-    → OnOk r (Makes ds fs (FocusOn now y (channel_of (unless_choked eased.wanted.choked client))) new.live
+    → OnOk r (Makes ds fs (FocusOn now y (channel_of (unless_choked eased.wanted.choked client)) true) new.live
     × (new.wanted ≡ with_request y client eased.wanted)))
     → OnErr r ((new ≡ eased) × (r ≡ Err focus.Memory)) → AsksEased ds now y client es r old new
 asks_then ds now y client es (Ok done) old eased new may x f e = (
   may,
   eased_then ds now es old eased
-      (λ fs s. Makes ds fs (FocusOn now y (channel_of (unless_choked s.wanted.choked client))) new.live
+      (λ fs s. Makes ds fs (FocusOn now y (channel_of (unless_choked s.wanted.choked client)) true) new.live
       × (new.wanted ≡ with_request y client s.wanted)) x f,
 )
 asks_then ds now y client es (Err focus.NotOpen) old eased new may x f e = absurd (not_both (Err focus.NotOpen) refl e.1)
@@ -197,4 +194,4 @@ asks_then ds now y client es (Err focus.NotOpen) old eased new may x f e = absur
     not_both : (r : Result (Unit {0}) FocusRefused) → r ≡ Err focus.NotOpen → r ≡ Err focus.Memory → ⊥
     not_both r a b = cc
 asks_then ds now y client es (Err focus.Memory) old eased new may x f e =
-    (may, (6, subst (λ s. EasesPart ds now 6 es old s) (sym e.0) x.1))
+    (may, (5, subst (λ s. EasesPart ds now 5 es old s) (sym e.0) x.1))

@@ -1,23 +1,20 @@
 -- Channels that were opened.
-use Rattle.std.proofs.Common.{◌≡◌, ℕ, ◌≤◌, ◌<◌, true, cond, List, [], ◌∷◌, length, slice_index_or, Option, Some, None, refl, sym, ap, ap₂, ◌∙◌, subst, inl, inr, arith}
+use Rattle.std.proofs.Common.{◌≡◌, ℕ, ◌≤◌, ◌<◌, true, cond, List, Option, Some, None, refl, sym, ap, ap₂, ◌∙◌, subst, inl, inr}
 use Rattle.std.specs.Prelude.{nat_le, nat_lt, is_some}
-use Rattle.std.specs.List.{list_any}
 use Rattle.std.proofs.lemmas.Bool.{and_from, and_parts, ltb-true, leb-true, le-leb, lt-leb, cases_Bool, true≢false}
-use Rattle.dispatch_calls.specs.declared.call.Call.TheVariants.{Open, FocusOn}
+use Rattle.dispatch_calls.specs.declared.call.Call.TheVariants.{Open}
 use Rattle.dispatch_calls.specs.declared.terms.Terms.{Terms}
-use Rattle.focus_resolver.specs.Resolver.{all_displays, is_at}
 use Rattle.dispatch_history.specs.Effect.{Effect, past_of}
-use Rattle.dispatch_history.specs.Focus.{requested, asked}
 use Rattle.dispatch_history.specs.History.{opened}
 use Rattle.dispatch_history.specs.Legal.{answered}
 use Rattle.dispatcher.specs.Access.{is_opened}
 use Rattle.window_snapshot.specs.Mask.{is_channel}
 use Rattle.live_input.specs.declared.client.Client.{Client}
 use Rattle.live_input.specs.declared.client.Seat.{Seat}
-use Rattle.live_input.specs.Closing.{is_requested, forgotten_on, forgotten_each, forgotten, asked_again}
+use Rattle.live_input.specs.Closing.{forgotten_on, forgotten}
 use Rattle.live_input.specs.Opening.{opening}
 use Rattle.live_input.specs.Seats.{IsHeld, is_full, first_vacant, is_held, is_of, is_open, seat_of}
-use Rattle.live_input.specs.Standing.{AreRequested, AreSeated, LiveIs}
+use Rattle.live_input.specs.Standing.{AreSeated, LiveIs}
 use Rattle.live_input.specs.State.{LiveState}
 use Rattle.live_input.proofs.Vacant.{none_vacant, is_vacant}
 
@@ -55,40 +52,12 @@ full_by_none seats e =
 pub not_full : (seats : List Seat) (c : ℕ) → Some c ≡ first_vacant seats → is_full seats ≡ true → ⊥
 not_full seats c e full = some≢none c (e ∙ none_vacant seats full)
 
--- the requests that are kept name a channel where one of the history does
-by_four : (rs : List (Option ℕ)) (f : ℕ → Option ℕ) (c : ℕ) → length rs ≡ 4 → ((y : ℕ) → y < 4 → slice_index_or rs y None ≡ f y)
-    → list_any (λ r. is_at r c) rs ≡ list_any (λ y. is_at (f y) c) all_displays
-by_four [] f c four e = absurd (omega (arith, four))
-by_four (p ∷ []) f c four e = absurd (omega (arith, four))
-by_four (p ∷ q ∷ []) f c four e = absurd (omega (arith, four))
-by_four (p ∷ q ∷ r ∷ []) f c four e = absurd (omega (arith, four))
-by_four (p ∷ q ∷ r ∷ s ∷ []) f c four e =
-    let e0 : p ≡ f 0 = e 0 (omega arith) in
-    let e1 : q ≡ f 1 = e 1 (omega arith) in
-    let e2 : r ≡ f 2 = e 2 (omega arith) in
-    let e3 : s ≡ f 3 = e 3 (omega arith) in
-    ap₂ (λ a b. list_any (λ r. is_at r c) (a ∷ b ∷ r ∷ s ∷ [])) e0 e1
-    ∙ ap₂ (λ a b. list_any (λ r. is_at r c) (f 0 ∷ f 1 ∷ a ∷ b ∷ [])) e2 e3
-by_four (p ∷ q ∷ r ∷ s ∷ t ∷ more) f c four e = absurd (omega (arith, four))
-
-pub requests_name : (es : List Effect) (rs : List (Option ℕ)) (asked c : ℕ) → AreRequested (past_of es) rs asked
-    → list_any (λ r. is_at r c) rs ≡ is_requested es c
-requests_name es rs asked c a = by_four rs (requested (past_of es)) c a.four a.channels_are
-
 -- what is forgotten, display by display
-pub forgotten_is : (ds : List ℕ) (now c : ℕ) (es : List Effect) (d0 d1 d2 d3 a : ℕ) (r : Option ℕ) → d0 ≡ 0 → d1 ≡ 1 → d2 ≡ 2 → d3 ≡ 3
-    → a ≡ asked (past_of es) → is_requested es c ≡ true
-    → r ≡ requested (past_of (forgotten_on ds now c d3 (forgotten_on ds now c d2 (forgotten_on ds now c d1 (forgotten_on ds now c d0 es))))) a
-    → answered ds (FocusOn now a r) (forgotten_on ds now c d3 (forgotten_on ds now c d2 (forgotten_on ds now c d1 (forgotten_on ds now c d0 es))))
-    ≡ forgotten ds now c es
-forgotten_is ds now c es d0 d1 d2 d3 a r e0 e1 e2 e3 ea q er =
-    ap (λ x. answered ds (FocusOn now a x) (forgotten_on ds now c d3 (forgotten_on ds now c d2 (forgotten_on ds now c d1 (forgotten_on ds now c d0 es))))) er
-    ∙ ap (λ d. asked_again ds now a (forgotten_on ds now c d3 (forgotten_on ds now c d2 (forgotten_on ds now c d1 (forgotten_on ds now c d es))))) e0
-    ∙ ap (λ d. asked_again ds now a (forgotten_on ds now c d3 (forgotten_on ds now c d2 (forgotten_on ds now c d (forgotten_on ds now c 0 es))))) e1
-    ∙ ap (λ d. asked_again ds now a (forgotten_on ds now c d3 (forgotten_on ds now c d (forgotten_on ds now c 1 (forgotten_on ds now c 0 es))))) e2
-    ∙ ap (λ d. asked_again ds now a (forgotten_on ds now c d (forgotten_on ds now c 2 (forgotten_on ds now c 1 (forgotten_on ds now c 0 es))))) e3
-    ∙ ap (λ x. asked_again ds now x (forgotten_each ds now c es)) ea
-    ∙ sym (ap (λ b. cond b (asked_again ds now (asked (past_of es)) (forgotten_each ds now c es)) es) q)
+pub forgotten_is : (ds : List ℕ) (now c : ℕ) (es : List Effect) (d0 d1 d2 d3 : ℕ) → d0 ≡ 0 → d1 ≡ 1 → d2 ≡ 2 → d3 ≡ 3
+    → forgotten_on ds now c d3 (forgotten_on ds now c d2 (forgotten_on ds now c d1 (forgotten_on ds now c d0 es))) ≡ forgotten ds now c es
+forgotten_is ds now c es d0 d1 d2 d3 e0 e1 e2 e3 =
+    ap₂ (λ a b. forgotten_on ds now c d3 (forgotten_on ds now c d2 (forgotten_on ds now c b (forgotten_on ds now c a es)))) e0 e1
+    ∙ ap₂ (λ a b. forgotten_on ds now c b (forgotten_on ds now c a (forgotten_on ds now c 1 (forgotten_on ds now c 0 es)))) e2 e3
 
 -- the channel of a client that is open is held
 holder_some : (g : ℕ) (o : Option ℕ) → is_of g o ≡ true → is_some o ≡ true

@@ -24,7 +24,7 @@ still_hidden : (c : ℕ) (call : Call) (calls : List Call) (ws : List Window) �
 still_hidden c (Windows now vs) calls ws none hidden = none
 still_hidden c call calls ws none hidden = (hidden, none)
 
-all_quiet : (ds : List ℕ) (es : List Effect) (c : ℕ) (calls : List Call) → Lawful ds es → is_named (snapshot (past_of es)) c ≡ false → NoneShows c calls
+pub all_quiet : (ds : List ℕ) (es : List Effect) (c : ℕ) (calls : List Call) → Lawful ds es → is_named (snapshot (past_of es)) c ≡ false → NoneShows c calls
     → stream (extend ds es calls) c ≡ stream es c
 all_quiet ds es c [] l hidden none = refl
 all_quiet ds es c (k ∷ ks) l hidden none =
@@ -34,6 +34,13 @@ all_quiet ds es c (k ∷ ks) l hidden none =
     all_quiet ds (answered ds k es) c ks later x.0 x.1
     ∙ (stepped ds k answer es c later (sound ds es c l)).stream_is
     ∙ ap (λ bs. sent_on (clock ((k, answer) ∷ past_of es)) bs (stream es c)) (sent_nothing ds k answer es c later hidden x.0)
+
+-- and it has none after all of them
+pub all_hidden : (ds : List ℕ) (es : List Effect) (c : ℕ) (calls : List Call) → is_named (snapshot (past_of es)) c ≡ false → NoneShows c calls
+    → is_named (snapshot (past_of (extend ds es calls))) c ≡ false
+all_hidden ds es c [] hidden none = hidden
+all_hidden ds es c (k ∷ ks) hidden none =
+    let x = still_hidden c k ks (snapshot (past_of es)) none hidden in all_hidden ds (answered ds k es) c ks x.0 x.1
 
 pub quiet_law : QuietLaw
 quiet_law ds es now choked c ws calls l has none =

@@ -51,7 +51,7 @@ names_gone a answer e = named_cond (not a) Gone answer refl e
 names_none : (es : List Effect) (call : Call) → is_tick call ≡ false → names_some (reply_to es call) ≡ false
 names_none es (Open terms) e = named_cond (nat_lt (opened (past_of es)) 64) (Opened (opened (past_of es) + 1)) Full refl refl
 names_none es (Windows now ws) e = refl
-names_none es (FocusOn now y c) e = refl
+names_none es (FocusOn now y c keys) e = refl
 names_none es (Notify now args) e =
     let s = down_on (past_of es) (device_of args) in
     named_cond (is_some (after_args s args)) Taken (Inconsistent (id_bits s.ids) (is_down s args)) refl refl

@@ -2,6 +2,7 @@
 use Rattle.std.proofs.Common.{◌≡◌, ℕ, suc, ◌+◌, ◌==◌, ◌≤◌, ◌<◌, Bool, true, false, cond, List, ◌∷◌, slice_index_or, slice_set, Option, None, refl, sym, ap, ◌∙◌, subst, inl, inr, arith}
 use Rattle.std.proofs.lemmas.Bool.{true≢false, cases_eq, cases_lt, eq-eqb, ne_eqb, or_right, or_left, lt-ltb}
 use Rattle.std.proofs.lemmas.List.{get_or-set_same, get_or-set_other, length-set}
+use Rattle.focus_resolver.specs.Resolver.{keyed_after}
 use Rattle.window_snapshot.specs.declared.window.Window.{Window}
 use Rattle.dispatch_calls.specs.declared.call.Call.{Call}
 use Rattle.dispatch_calls.specs.declared.call.Call.TheVariants.{Open, Windows, FocusOn, Remove}
@@ -34,11 +35,11 @@ plain_windows (Windows now shown) ws e = absurd (true≢false (sym e))
 plain_windows call ws e = refl
 
 plain_requested : (call : Call) (y : ℕ) (before : Option ℕ) → is_plain call ≡ true → requested_after call y before ≡ before
-plain_requested (FocusOn now display channel) y before e = absurd (true≢false (sym e))
+plain_requested (FocusOn now display channel keys) y before e = absurd (true≢false (sym e))
 plain_requested call y before e = refl
 
 plain_asked : (call : Call) (before : ℕ) → is_plain call ≡ true → asked_after call before ≡ before
-plain_asked (FocusOn now display channel) before e = absurd (true≢false (sym e))
+plain_asked (FocusOn now display channel keys) before e = absurd (true≢false (sym e))
 plain_asked call before e = refl
 
 plain_opened : (call : Call) (answer : Reply) (n : ℕ) → is_plain call ≡ true → opened_after call answer n ≡ n
@@ -54,6 +55,10 @@ plain_live call answer c before e = refl
 of_some : (seats : List Seat) (b : Bool) (x y : Option ℕ) → IsOfSome x seats → IsOfSome y seats → IsOfSome (cond b x y) seats
 of_some seats true x y p q = p
 of_some seats false x y p q = q
+
+low_either : (b : Bool) (x y n : ℕ) → x < n → y < n → cond b x y < n
+low_either true x y n p q = p
+low_either false x y n p q = q
 
 -- the requests after a step that leaves them
 same_requests : (h k : History) (channels : List (Option ℕ)) (display : ℕ)
@@ -139,15 +144,15 @@ module _ (ds : List ℕ) (es : List Effect) (s : LiveState) (h : LiveIs ds es s)
       }
 
   -- the focus is requested
-  request_goes : (now y : ℕ) (channel : Option ℕ) (answer : Reply) → y < 4 → IsOfSome channel s.seats
-      → StandsFor (step s.dispatcher.displays (FocusOn now y channel) answer es) d → AreReleased (answered ds (FocusOn now y channel) es) d
-      → (t : Steps) → StepsAre (answered ds (FocusOn now y channel) es) t
-      → LiveIs ds (answered ds (FocusOn now y channel) es)
-      (record s { dispatcher = d; requested = slice_set s.requested y channel; asked = y; steps = t })
-  request_goes now y channel answer low own stands release t steps =
+  request_goes : (now y : ℕ) (channel : Option ℕ) (keys : Bool) (answer : Reply) → y < 4 → IsOfSome channel s.seats
+      → StandsFor (step s.dispatcher.displays (FocusOn now y channel keys) answer es) d → AreReleased (answered ds (FocusOn now y channel keys) es) d
+      → (t : Steps) → StepsAre (answered ds (FocusOn now y channel keys) es) t
+      → LiveIs ds (answered ds (FocusOn now y channel keys) es)
+      (record s { dispatcher = d; requested = slice_set s.requested y channel; asked = keyed_after keys y s.asked; steps = t })
+  request_goes now y channel keys answer low own stands release t steps =
       let h0 = past_of es in
-      let r = reply_to es (FocusOn now y channel) in
-      let there = (stands_more (FocusOn now y channel) answer stands).1 in
+      let r = reply_to es (FocusOn now y channel keys) in
+      let there = (stands_more (FocusOn now y channel keys) answer stands).1 in
       record {
         stands = there;
         displays_are = same ∙ h.displays_are;
@@ -156,12 +161,12 @@ module _ (ds : List ℕ) (es : List Effect) (s : LiveState) (h : LiveIs ds es s)
             record {
               four = length-set s.requested y channel ∙ h.requests_are.four;
               channels_are = by_display;
-              display_is = refl;
-              within = low;
+              display_is = ap (keyed_after keys y) h.requests_are.display_is;
+              within = low_either keys y s.asked 4 low h.requests_are.within;
             };
-        seats_are = same_seats h0 ((FocusOn now y channel, r) ∷ h0) s.seats refl (λ c. refl) h.seats_are;
+        seats_are = same_seats h0 ((FocusOn now y channel keys, r) ∷ h0) s.seats refl (λ c. refl) h.seats_are;
         tenants_are =
-            tenants_more ds (FocusOn now y channel) r es s.seats (lawful_of there) h.tenants_are h.tenants_are.shown
+            tenants_more ds (FocusOn now y channel keys) r es s.seats (lawful_of there) h.tenants_are h.tenants_are.shown
             (λ z zt. of_some s.seats (z == y) channel (requested h0 z) own (h.tenants_are.asked z zt))
             (λ c from high none. refl)
             (λ c lt le silent. absurd (omega (arith, lt, le)));
@@ -184,14 +189,17 @@ module _ (ds : List ℕ) (es : List Effect) (s : LiveState) (h : LiveIs ds es s)
           ]
 
   -- by the place of the display among those that are kept
-  pub request_goes_at : (now y : ℕ) (channel : Option ℕ) (answer : Reply) (place : ℕ) → place ≡ y → y < 4 → IsOfSome channel s.seats
-      → StandsFor (step s.dispatcher.displays (FocusOn now y channel) answer es) d → AreReleased (answered ds (FocusOn now y channel) es) d
-      → (t : Steps) → StepsAre (answered ds (FocusOn now y channel) es) t
-      → LiveIs ds (answered ds (FocusOn now y channel) es)
-      (record s { dispatcher = d; requested = slice_set s.requested place channel; asked = y; steps = t })
-  request_goes_at now y channel answer place at low own stands release t steps =
-      subst (λ n. LiveIs ds (answered ds (FocusOn now y channel) es) (record s { dispatcher = d; requested = slice_set s.requested n channel; asked = y; steps = t }))
-      (sym at) (request_goes now y channel answer low own stands release t steps)
+  pub request_goes_at : (now y : ℕ) (channel : Option ℕ) (keys : Bool) (answer : Reply) (place : ℕ) → place ≡ y → y < 4 → IsOfSome channel s.seats
+      → (last : ℕ) → last ≡ keyed_after keys y s.asked
+      → StandsFor (step s.dispatcher.displays (FocusOn now y channel keys) answer es) d → AreReleased (answered ds (FocusOn now y channel keys) es) d
+      → (t : Steps) → StepsAre (answered ds (FocusOn now y channel keys) es) t
+      → LiveIs ds (answered ds (FocusOn now y channel keys) es)
+      (record s { dispatcher = d; requested = slice_set s.requested place channel; asked = last; steps = t })
+  request_goes_at now y channel keys answer place at low own last is stands release t steps =
+      subst (λ n. LiveIs ds (answered ds (FocusOn now y channel keys) es) (record s { dispatcher = d; requested = slice_set s.requested n channel; asked = last; steps = t }))
+      (sym at)
+      (subst (λ a. LiveIs ds (answered ds (FocusOn now y channel keys) es) (record s { dispatcher = d; requested = slice_set s.requested y channel; asked = a; steps = t }))
+      (sym is) (request_goes now y channel keys answer low own stands release t steps))
 
   -- the first channel that was not opened yet is opened
   pub open_goes : (terms : Terms) (answer : Reply) → opened (past_of es) < 64

@@ -35,5 +35,5 @@ under_a_finger = run one_display (reverse (Open usual ∷ Windows 0 (shown ∷ [
 abbrev closing : List Call
 closing = Windows 2000 [] ∷ Receive 1 ∷ Finish 2000 1 1 ∷ Receive 1 ∷ Finish 2000 1 2 ∷ []
 
-each_call_of_a_close_takes_something : TakeAll one_display 2000 1 0 under_a_finger closing
+each_call_of_a_close_takes_something : TakeAll one_display 2000 1 under_a_finger closing
 each_call_of_a_close_takes_something = ((refl, refl), (refl, ((refl, refl), (refl, ((refl, refl), tt)))))

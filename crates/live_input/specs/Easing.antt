@@ -57,14 +57,14 @@ AsksWanted displays now es w (Err error) s = (n : ℕ) × LiveIs displays (eased
 
 -- All of them are done. If memory runs out, some are.
 abbrev pub Eases : List ℕ → (now : ℕ) → List Effect → Result (Unit {0}) AllocError → (old new : Limited) → Type 0
-Eases displays now es (Ok done) old new = (new.wanted.is_shown ≡ true) × EasesPart displays now 6 es old new
+Eases displays now es (Ok done) old new = (new.wanted.is_shown ≡ true) × EasesPart displays now 5 es old new
 Eases displays now es (Err error) old new = (n : ℕ) × EasesPart displays now n es old new
 
 -- A call goes as it says from the history and the service that easing led to.
 pub record GoesEased (displays : List ℕ) (now : ℕ) (es : List Effect) (old : Limited) (Goes : List Effect → Limited → Type 0) : Type 0 where
   pub eased : Limited
   pub shown : eased.wanted.is_shown ≡ true
-  pub part : EasesPart displays now 6 es old eased
+  pub part : EasesPart displays now 5 es old eased
   pub goes : Goes (eased_by (easings displays now part.choked.wanted) es) eased
 
 -- It does so, or memory runs out before: then it says so, and some of the easing is done.

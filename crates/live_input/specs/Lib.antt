@@ -25,7 +25,11 @@ pub mod Limit
 pub mod Easing
 pub mod LimitedCalls
 pub mod LimitLaws
+pub mod Stepwise
+pub mod Served
+pub mod ShownLaws
 pub mod Laws
+pub mod ClosingLaws
 pub mod Through
 pub mod Order
 pub mod Slots

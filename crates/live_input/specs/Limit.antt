@@ -6,7 +6,7 @@ use Rattle.window_snapshot.specs.Mask.{is_channel, mask_has}
 use Rattle.dispatch_calls.specs.declared.call.Call.TheVariants.{Windows, FocusOn}
 use Rattle.dispatch_history.specs.Delivery.{oldest}
 use Rattle.dispatch_history.specs.Effect.{Effect, past_of, stream}
-use Rattle.dispatch_history.specs.Focus.{asked, requested}
+use Rattle.dispatch_history.specs.Focus.{requested}
 use Rattle.dispatch_history.specs.History.{received}
 use Rattle.dispatch_history.specs.Legal.{answered}
 use Rattle.live_input.specs.declared.client.Client.{Client}
@@ -57,15 +57,15 @@ wanted_on w y = unless_choked w.choked (slice_index_or w.requested y None)
 -- nothing is asked for yet
 abbrev pub first_wanted : (most : ℕ) → Wanted
 first_wanted most =
-    record { most = most; windows = []; requested = replicate 4 None; asked = 0; choked = 0; is_shown = true }
+    record { most = most; windows = []; requested = replicate 4 None; choked = 0; is_shown = true }
 
 -- the windows are asked for
 abbrev pub with_windows : List ClientWindow → Wanted → Wanted
 with_windows ws w = record w { windows = ws }
 
--- the focus of a display is asked for, for a client or for none; it is that of the last request
+-- the focus of a display is asked for, for a client or for none
 abbrev pub with_request : (display : ℕ) → Option Client → Wanted → Wanted
-with_request y client w = record w { requested = slice_set w.requested y client; asked = y }
+with_request y client w = record w { requested = slice_set w.requested y client }
 
 -- the window is of this channel
 abbrev pub is_of_channel : ℕ → Option Client → Bool
@@ -103,27 +103,19 @@ shown_again displays now w es =
 abbrev pub is_placed : Wanted → List Effect → (display : ℕ) → Bool
 is_placed w es y = is_same (requested (past_of es) y) (channel_of (wanted_on w y))
 
--- that of each display was, and that of the wanted display last
+-- that of each display was
 abbrev pub are_placed : Wanted → List Effect → Bool
-are_placed w es =
-    is_placed w es 0 && is_placed w es 1 && is_placed w es 2 && is_placed w es 3 && (asked (past_of es) == w.asked)
+are_placed w es = is_placed w es 0 && is_placed w es 1 && is_placed w es 2 && is_placed w es 3
 
--- the focus of a display is requested again, unless that was the last request for it
+-- The focus of a display is requested again, unless that was the last request for it. Keys go where they went.
 abbrev pub asked_on : List ℕ → (now : ℕ) → Wanted → (display : ℕ) → List Effect → List Effect
 asked_on displays now w y es =
-    if is_placed w es y then es else answered displays (FocusOn now y (channel_of (wanted_on w y))) es
-
--- so that keys go where they are to go, that of the last display is requested last
-abbrev pub asked_last : List ℕ → (now : ℕ) → Wanted → List Effect → List Effect
-asked_last displays now w es =
-    if asked (past_of es) == w.asked then es
-    else answered displays (FocusOn now w.asked (channel_of (wanted_on w w.asked))) es
+    if is_placed w es y then es else answered displays (FocusOn now y (channel_of (wanted_on w y)) false) es
 
 -- the requests by which the focus is where it is wanted, in order: each makes at most one call
 abbrev pub askings : List ℕ → (now : ℕ) → Wanted → List (List Effect → List Effect)
 askings displays now w =
-    asked_on displays now w 0 ∷ asked_on displays now w 1 ∷ asked_on displays now w 2 ∷ asked_on displays now w 3
-    ∷ asked_last displays now w ∷ []
+    asked_on displays now w 0 ∷ asked_on displays now w 1 ∷ asked_on displays now w 2 ∷ asked_on displays now w 3 ∷ []
 
 -- what is done so that the history agrees with what is wanted: the windows first, and then the focus
 abbrev pub easings : List ℕ → (now : ℕ) → Wanted → List (List Effect → List Effect)

@@ -1,22 +1,24 @@
 -- Proved facts about choked clients. Each law is the clause of a function of its own.
-use Rattle.std.specs.Prelude.{ℕ, ◌≡◌, ◌≤◌, ◌+◌, ◌*◌, true, false, List, [], ◌∷◌, length, map, Option, Some}
+use Rattle.std.specs.Prelude.{ℕ, ◌≡◌, ◌≤◌, ◌+◌, ◌*◌, true, false, List, [], ◌∷◌, length, map, take, Option, Some}
 use Rattle.input_types.specs.declared.message.Args.{Args}
 use Rattle.input_types.specs.declared.message.Args.TheVariants.{Motion as MotionArgs}
 use Rattle.window_snapshot.specs.Mask.{mask_has}
-use Rattle.window_snapshot.specs.Named.{is_named, window_of as window_on}
+use Rattle.window_snapshot.specs.Named.{is_focusable_on, is_named, window_of as window_on}
 use Rattle.dispatch_calls.specs.declared.call.Call.{Call}
 use Rattle.dispatch_calls.specs.declared.call.Call.TheVariants.{Windows}
-use Rattle.dispatch_history.specs.Effect.{Effect, stream}
+use Rattle.dispatch_history.specs.Effect.{Effect, past_of, stream}
+use Rattle.dispatch_history.specs.Focus.{asked, key_target}
 use Rattle.dispatch_history.specs.Keys.{keys}
 use Rattle.dispatch_history.specs.Legal.{answered}
 use Rattle.dispatch_history.specs.Ordered.{extend}
 use Rattle.dispatcher.specs.DispatchTables.Lawful.{Lawful}
 use Rattle.live_input.specs.declared.windows.ClientWindow.{ClientWindow}
 use Rattle.live_input.specs.declared.windows.WindowInfo.{WindowInfo}
-use Rattle.live_input.specs.Limit.{is_choked, unreceived, walled}
+use Rattle.live_input.specs.Limit.{eased_by, easings, is_choked, is_placed, unreceived, walled}
 use Rattle.live_input.specs.Seats.{IsHeld}
 use Rattle.live_input.specs.Standing.{IsDone, LiveIs}
 use Rattle.live_input.specs.State.{LiveState}
+use Rattle.live_input.specs.Wanted.{Wanted}
 use Rattle.live_input.specs.Windows.{window_of}
 
 -- A choked channel has no window among those that are shown, so no call sends it anything (`silence`).
@@ -85,3 +87,20 @@ GrowthLaw =
     → LiveIs displays es s → IsHeld c s.seats → is_choked most choked s.seats es c ≡ false
     → AllFew (extend displays es calls)
     → unreceived (extend displays es calls) c ≤ most + length (keys es c) + 131 * length calls
+
+-- Choking and releasing clients leaves the display whose focus gets keys, in full or in part.
+abbrev pub EasedDisplayLaw : Type 0
+EasedDisplayLaw =
+    (displays : List ℕ) (now n : ℕ) (w : Wanted) (es : List Effect)
+    → asked (past_of (eased_by (take n (easings displays now w)) es)) ≡ asked (past_of es)
+
+-- It leaves the key target and the keys that it holds, if the focus of its display is wanted as it was requested, and if
+-- what is shown, with walls, has a window of it there that may have the focus.
+abbrev pub EasedKeysLaw : Type 0
+EasedKeysLaw =
+    (displays : List ℕ) (now n : ℕ) (w : Wanted) (es : List Effect) (c : ℕ)
+    → key_target (past_of es) ≡ Some c
+    → is_placed w es (asked (past_of es)) ≡ true
+    → (w.is_shown ≡ false → is_focusable_on (map window_of (walled w.choked w.windows)) (asked (past_of es)) c ≡ true)
+    → let fs = eased_by (take n (easings displays now w)) es in
+    (key_target (past_of fs) ≡ Some c) × (keys fs c ≡ keys es c)

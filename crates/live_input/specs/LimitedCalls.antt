@@ -90,13 +90,13 @@ PutsEased displays now k i es (Err window.Memory) old new =
     × ((new ≡ old) ⊎ EasedAlone displays now es old new)
 
 -- After the focus is requested, it was requested for nobody in place of a client that is choked, and for the client once
--- that is released. A request for a client that is not open is refused.
+-- that is released. Keys go to the display from then on. A request for a client that is not open is refused.
 abbrev pub AsksEased : List ℕ → (now display : ℕ) → Option Client → List Effect → Result (Unit {0}) FocusRefused → (old new : Limited) → Type 0
 AsksEased displays now y client es (Ok done) old new =
     (may_ask old.live.seats client ≡ true)
     × GoesEased displays now es old
     (λ fs eased.
-    Makes displays fs (FocusOn now y (channel_of (unless_choked eased.wanted.choked client))) new.live
+    Makes displays fs (FocusOn now y (channel_of (unless_choked eased.wanted.choked client)) true) new.live
     × (new.wanted ≡ with_request y client eased.wanted))
 AsksEased displays now y client es (Err focus.NotOpen) old new = (may_ask old.live.seats client ≡ false) × (new ≡ old)
 AsksEased displays now y client es (Err focus.Memory) old new =

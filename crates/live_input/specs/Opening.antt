@@ -5,7 +5,6 @@ use Rattle.dispatch_calls.specs.declared.call.Call.TheVariants.{Open}
 use Rattle.dispatch_calls.specs.declared.terms.Terms.{Terms}
 use Rattle.dispatch_history.specs.Delivery.{able}
 use Rattle.dispatch_history.specs.Effect.{Effect, past_of, stream}
-use Rattle.dispatch_history.specs.Focus.{asked}
 use Rattle.dispatch_history.specs.History.{opened}
 use Rattle.dispatch_history.specs.Legal.{answered}
 use Rattle.live_input.specs.declared.client.Client.{Client}
@@ -70,13 +69,13 @@ pub record Closes (client : Client) (old new : LiveState) : Type 0 where
   pub fingers_are : new.fingers ≡ old.fingers
   pub reported_are : (c : ℕ) → mask_has new.reported c ≡ (not (c == client.channel) && mask_has old.reported c)
 
--- An open client is closed at this moment, which is then the clock: its window is hidden, its requests are withdrawn, and everything left for it is received
--- and finished. If memory runs out, it is still open, and some of that is done: each further call takes something away
--- from it.
+-- An open client is closed at this moment, which is then the clock: its window is hidden, its requests are withdrawn
+-- without moving keys, and everything left for it is received and finished. If memory runs out, it is still open, and
+-- some of that is done: each further call takes something away from it.
 abbrev pub CloseGoes : List ℕ → (now : ℕ) → Client → List Effect → Result (Unit {0}) CloseRefused → (old new : LiveState) → Type 0
 CloseGoes displays now k es (Ok done) old new =
     Closes k old new × (new.clock ≡ now)
     × Settles displays (next_left now k.channel) (forgotten displays now k.channel (hidden displays now k.channel es)) new
 CloseGoes displays now k es (Err NotOpen) old new = ⊥
 CloseGoes displays now k es (Err Memory) old new =
-    SameClients old new × (new.clock ≡ now) × TakenInPart displays now k.channel (asked (past_of es)) es new
+    SameClients old new × (new.clock ≡ now) × TakenInPart displays now k.channel es new

@@ -22,8 +22,9 @@ may_ask seats (Some k) = is_open seats k
 
 -- After a request that call was made. A request for a client that is not open is refused and
 -- changes nothing; if memory runs out, nothing changes either.
-abbrev pub FocusGoes : List ℕ → (now display : ℕ) → Option Client → List Effect → Result (Unit {0}) FocusRefused → (old new : LiveState) → Type 0
-FocusGoes displays now display client es (Ok done) old new =
-    (may_ask old.seats client ≡ true) × Makes displays es (FocusOn now display (channel_of client)) new
-FocusGoes displays now display client es (Err NotOpen) old new = (may_ask old.seats client ≡ false) × (new ≡ old)
-FocusGoes displays now display client es (Err Memory) old new = (may_ask old.seats client ≡ true) × (new ≡ old)
+abbrev pub FocusGoes :
+    List ℕ → (now display : ℕ) → Option Client → (keys : Bool) → List Effect → Result (Unit {0}) FocusRefused → (old new : LiveState) → Type 0
+FocusGoes displays now display client keys es (Ok done) old new =
+    (may_ask old.seats client ≡ true) × Makes displays es (FocusOn now display (channel_of client) keys) new
+FocusGoes displays now display client keys es (Err NotOpen) old new = (may_ask old.seats client ≡ false) × (new ≡ old)
+FocusGoes displays now display client keys es (Err Memory) old new = (may_ask old.seats client ≡ true) × (new ≡ old)

@@ -19,7 +19,7 @@ use Rattle.live_input.specs.Seats.{IsHeld, is_held, seat_of}
 use Rattle.live_input.specs.State.{LiveState}
 use Rattle.live_input.specs.Steps.{StepsAre}
 
--- the focus was requested last for these channels, display by display, and last of all for this display
+-- the focus was requested last for these channels, display by display, and keys go to the focus of this display
 pub record AreRequested (h : History) (channels : List (Option ℕ)) (display : ℕ) : Type 0 where
   pub four : length channels ≡ 4
   pub channels_are : (y : ℕ) → y < 4 → slice_index_or channels y None ≡ requested h y
@@ -89,7 +89,7 @@ pub record LiveIs (displays : List ℕ) (es : List Effect) (s : LiveState) : Typ
 abbrev pub is_plain : Call → Bool
 is_plain (Open terms) = false
 is_plain (Windows now snapshot) = false
-is_plain (FocusOn now display channel) = false
+is_plain (FocusOn now display channel keys) = false
 is_plain (Remove now channel) = false
 is_plain call = true
 

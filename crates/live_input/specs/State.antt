@@ -11,7 +11,7 @@ use Rattle.live_input.specs.declared.steps.Steps.{Steps}
 
 -- what each channel is opened with; the latest moment that was handed in; the dispatcher; which client is open on which channel, and how
 -- many clients were opened so far; the last windows; for each display the channel for which the focus was last
--- requested, and the display of the last request; the channels whose clients were reported unresponsive and not yet
+-- requested, and the display whose focus gets keys; the channels whose clients were reported unresponsive and not yet
 -- returned to the caller; the readers of the plugged-in devices, starting with device 1; what devices delivered that must
 -- still be handed in, oldest first; the steps at which messages were published; the
 -- fingers of each panel that is driven finger by finger, starting with device 1

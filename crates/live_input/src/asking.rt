@@ -35,7 +35,7 @@ impl Live {
         }
     }
 
-    /// The client that keys go to, if there is one: the one that has the focus of the display of the last request.
+    /// The client that keys go to, if there is one: the one that has the focus of the display to which they were taken.
     pub fn key_target(&self) -> Option<Client>
         ensures { (ds : List ℕ) (es : List Effect) → LiveIs ds es self.now
             → result ≡ client_of_some self.now.seats (key_target (past_of es)) }

@@ -10,7 +10,6 @@ ghost use Rattle.live_input.specs.Standing.{LiveIs};
 use crate::closing::oldest;
 use crate::live::Live;
 use dispatcher::Dispatcher;
-use input_types::DisplayId;
 use window_snapshot::{mask_first, mask_has, mask_with, mask_without};
 
 impl Live {
@@ -57,13 +56,6 @@ impl Live {
         } else {
             false
         }
-    }
-
-    /// The display of the last request for the focus.
-    pub(crate) fn asked(&self) -> DisplayId
-        ensures { result ≡ self.now.asked }
-    {
-        self.asked
     }
 
     /// Keeps the channels of a mask as reported.

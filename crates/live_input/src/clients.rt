@@ -2,7 +2,6 @@
 ghost use Rattle.std.specs.Prelude.{◌≡◌, ℕ, ◌+◌, ◌≤◌, ◌<◌, slice_index_or, ◌↔◌, true, false, not, List, length, Option, None, Some, Ok, Err, IfOk, OnOk, OnErr, if◌then◌else◌};
 ghost use Rattle.std.specs.List.{position};
 ghost use Rattle.dispatch_history.specs.Effect.{Effect, past_of, stream};
-ghost use Rattle.dispatch_history.specs.Focus.{asked};
 ghost use Rattle.dispatch_history.specs.History.{opened};
 ghost use Rattle.dispatcher.specs.Access.{is_opened};
 ghost use Rattle.focus_resolver.specs.Resolver.{is_at};
@@ -127,8 +126,9 @@ impl Live {
     }
 
     /// Closes a client. Its window is no longer shown, so its pointers and keys are cancelled and it loses the focus.
-    /// Its focus requests are withdrawn, and keys stay on the display to which they went. All its messages are received
-    /// and finished. Nothing of it remains, and its channel can be used again.
+    /// Its focus requests are withdrawn; keys stay on the display to which they went, and those that another client
+    /// holds stay down. All its messages are received and finished. Nothing of it remains, and its channel can be used
+    /// again.
     pub fn close(&mut self, now: Moment, client: Client) -> Result<(), CloseRefused>
         ensures stale { is_open self.old.seats client ≡ false
             → (result ≡ Err CloseRefused.NotOpen) × (self.new ≡ self.old) }
@@ -160,7 +160,7 @@ impl Live {
         ensures unasked { (ds : List ℕ) (es : List Effect) → LiveIs ds es self.old
             → OnOk result ((y : ℕ) → y < 4 → is_at (slice_index_or self.new.requested y None) channel ≡ false) }
         ensures part { (ds : List ℕ) (es : List Effect) → LiveIs ds es self.old → IsHeld channel self.old.seats
-            → TakenInPart ds now channel (asked (past_of es)) es self.new }
+            → TakenInPart ds now channel es self.new }
         ensures rest { SameRest self.old self.new }
     {
         self.hide(now, channel)?;

@@ -4,7 +4,7 @@ ghost use Rattle.std.specs.List.{list_any};
 ghost use Rattle.focus_resolver.specs.Resolver.{is_at};
 ghost use Rattle.window_snapshot.specs.Named.{is_named};
 ghost use Rattle.dispatch_history.specs.Effect.{Effect, past_of};
-ghost use Rattle.dispatch_history.specs.Focus.{asked, requested};
+ghost use Rattle.dispatch_history.specs.Focus.{requested};
 ghost use Rattle.dispatch_history.specs.Delivery.{oldest};
 ghost use Rattle.dispatcher.specs.Access.{is_opened};
 ghost use Rattle.dispatcher.specs.Dispatching.{IsAfter};
@@ -39,8 +39,8 @@ impl Live {
         self.show(now, others)
     }
 
-    /// If the focus of a display was requested for a channel, requests it for none. If memory runs out, nothing
-    /// changes.
+    /// If the focus of a display was requested for a channel, requests it for none, and leaves keys where they go. If
+    /// memory runs out, nothing changes.
     fn forget_on(&mut self, now: Moment, display: DisplayId, channel: u32) -> Result<(), AllocError>
         ensures after { (ds : List ℕ) (es : List Effect) → LiveIs ds es self.old
             → OnOk result (LiveIs ds (forgotten_on ds now channel display es) self.new) }
@@ -49,32 +49,25 @@ impl Live {
         ensures err { OnErr result (self.new ≡ self.old) }
     {
         if is_at(self.requested_on(display), channel) {
-            self.request(now, display, None)
+            self.request(now, display, None, false)
         } else {
             Ok(())
         }
     }
 
-    /// For each display whose focus was requested for a channel, requests it for none. Then makes the last request once
-    /// more, so that keys stay on its display.
+    /// For each display whose focus was requested for a channel, requests it for none, and leaves keys where they go.
     pub(crate) fn forget(&mut self, now: Moment, channel: u32) -> Result<(), AllocError>
         ensures after { (ds : List ℕ) (es : List Effect) → LiveIs ds es self.old
             → OnOk result (LiveIs ds (forgotten ds now channel es) self.new) }
         ensures part { (ds : List ℕ) (es : List Effect) → LiveIs ds es self.old
-            → TakenInPart ds now channel (asked (past_of es)) es self.new }
+            → TakenInPart ds now channel es self.new }
         ensures rest { SameRest self.old self.new }
         ensures windows { self.new.windows ≡ self.old.windows }
     {
-        if !is_requested(&self.requested, channel) {
-            return Ok(());
-        }
-        let asked = self.asked;
         self.forget_on(now, display(0), channel)?;
         self.forget_on(now, display(1), channel)?;
         self.forget_on(now, display(2), channel)?;
-        self.forget_on(now, display(3), channel)?;
-        let requested = self.requested_on(asked);
-        self.request(now, asked, requested)
+        self.forget_on(now, display(3), channel)
     }
 
     /// The channel for which the focus of a display was requested last.
@@ -138,13 +131,6 @@ pub(crate) fn display(number: u8) -> DisplayId
     ensures { result ≡ number }
 {
     DisplayId::new(number).unwrap()
-}
-
-/// Whether the focus of some display was requested last for a channel.
-fn is_requested(requested: &[Option<u32>; 4], channel: u32) -> bool
-    ensures { result ≡ list_any (λ r. is_at r channel) requested.now }
-{
-    requested.iter().any(|request| is_at(*request, channel))
 }
 
 /// Whether a channel has one of the windows.

@@ -109,7 +109,7 @@ impl Live {
     }
 
     /// Makes one call, and keeps the channels that it reports unresponsive.
-    fn note(&mut self, call: &Call) -> Result<(), AllocError>
+    pub(crate) fn note(&mut self, call: &Call) -> Result<(), AllocError>
         ensures after { (ds : List ℕ) (es : List Effect) → LiveIs ds es self.old → is_plain call.now ≡ true
             → IsOfHeld self.old.seats call.now → OnOk result (LiveIs ds (answered ds call.now es) self.new) }
         ensures named { (ds : List ℕ) (es : List Effect) → LiveIs ds es self.old

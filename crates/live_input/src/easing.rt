@@ -1,10 +1,9 @@
 //! Before a call, clients are choked and released, and the history is made to agree with what is wanted.
-ghost use Rattle.std.specs.Prelude.{◌≡◌, ◌==◌, ◌&&◌, ℕ, List, true, IsOk, OnErr, OnOk};
-ghost use Rattle.dispatch_history.specs.Effect.{Effect, past_of};
-ghost use Rattle.dispatch_history.specs.Focus.{asked};
+ghost use Rattle.std.specs.Prelude.{◌≡◌, ℕ, List, true, IsOk, OnErr, OnOk};
+ghost use Rattle.dispatch_history.specs.Effect.{Effect};
 ghost use Rattle.live_input.specs.Answers.{SameClients, SameRest};
 ghost use Rattle.live_input.specs.Easing.{AsksWanted, Chokes, Eases, IfElse, IsCalm, KeepsReported, at_clock};
-ghost use Rattle.live_input.specs.Limit.{are_placed, asked_last, asked_on, is_placed, is_same, shown_again};
+ghost use Rattle.live_input.specs.Limit.{are_placed, asked_on, is_placed, is_same, shown_again};
 ghost use Rattle.live_input.specs.Standing.{LiveIs};
 ghost use Rattle.live_input.specs.State.{latest};
 
@@ -34,7 +33,7 @@ impl Limited {
         self.are_asked()
     }
 
-    /// Whether the focus of each display was last requested as it is wanted, and that of the wanted display last.
+    /// Whether the focus of each display was last requested as it is wanted.
     #[inline(always)]
     fn are_asked(&self) -> bool
         ensures { (ds : List ℕ) (es : List Effect) → LiveIs ds es self.now.live
@@ -49,19 +48,7 @@ impl Limited {
         if !self.is_asked(display(2)) {
             return false;
         }
-        if !self.is_asked(display(3)) {
-            return false;
-        }
-        self.is_asked_last()
-    }
-
-    /// Whether the focus of the wanted display was requested last.
-    #[inline(always)]
-    fn is_asked_last(&self) -> bool
-        ensures { (ds : List ℕ) (es : List Effect) → LiveIs ds es self.now.live
-            → result ≡ (asked (past_of es) == self.now.wanted.asked) }
-    {
-        self.live.asked() == self.wanted.asked()
+        self.is_asked(display(3))
     }
 
     /// Whether the focus of a display was last requested as it is wanted.
@@ -139,7 +126,7 @@ impl Limited {
         }
     }
 
-    /// Requests the focus of each display as it is wanted, and keeps keys on the wanted display. The clock is now.
+    /// Requests the focus of each display as it is wanted, and leaves keys where they go. The clock is now.
     #[inline(never)]
     fn ask_wanted(&mut self, now: Moment) -> Result<(), AllocError>
         ensures after { (ds : List ℕ) (es : List Effect) → LiveIs ds es self.old.live → self.old.live.clock ≡ now
@@ -152,12 +139,11 @@ impl Limited {
         self.ask_on(now, display(0))?;
         self.ask_on(now, display(1))?;
         self.ask_on(now, display(2))?;
-        self.ask_on(now, display(3))?;
-        self.ask_last(now)
+        self.ask_on(now, display(3))
     }
 
-    /// Requests the focus of a display as it is wanted, unless it was last requested so. The clock is now. If memory
-    /// runs out, nothing changes.
+    /// Requests the focus of a display as it is wanted, unless it was last requested so, and leaves keys where they go.
+    /// The clock is now. If memory runs out, nothing changes.
     fn ask_on(&mut self, now: Moment, display: DisplayId) -> Result<(), AllocError>
         ensures after { (ds : List ℕ) (es : List Effect) → LiveIs ds es self.old.live → self.old.live.clock ≡ now
             → OnOk result (LiveIs ds (asked_on ds now self.old.wanted display es) self.new.live) }
@@ -171,28 +157,7 @@ impl Limited {
             return Ok(());
         }
         let client = self.wanted.on(display);
-        match self.live.focus(now, display, client) {
-            Ok(()) => Ok(()),
-            Err(_) => Err(AllocError),
-        }
-    }
-
-    /// Requests the focus of the wanted display last. The clock is now. If memory runs out, nothing changes.
-    fn ask_last(&mut self, now: Moment) -> Result<(), AllocError>
-        ensures after { (ds : List ℕ) (es : List Effect) → LiveIs ds es self.old.live → self.old.live.clock ≡ now
-            → OnOk result (LiveIs ds (asked_last ds now self.old.wanted es) self.new.live) }
-        ensures wanted { self.new.wanted ≡ self.old.wanted }
-        ensures rest { self.old.live.clock ≡ now → SameRest self.old.live self.new.live }
-        ensures err { OnErr result (self.new ≡ self.old) }
-        ensures calm { (ds : List ℕ) (es : List Effect) → LiveIs ds es self.old.live
-            → (asked (past_of es) == self.old.wanted.asked) ≡ true → IsOk result × (self.new ≡ self.old) }
-    {
-        if self.is_asked_last() {
-            return Ok(());
-        }
-        let display = self.wanted.asked();
-        let client = self.wanted.on(display);
-        match self.live.focus(now, display, client) {
+        match self.live.focus(now, display, client, false) {
             Ok(()) => Ok(()),
             Err(_) => Err(AllocError),
         }

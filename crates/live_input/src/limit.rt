@@ -30,9 +30,8 @@ pub(crate) struct Wanted {
     pub(crate) most: u64,
     /// The windows that were last shown, front to back.
     pub(crate) windows: Vec<ClientWindow>,
-    /// The client for which the focus of each display was last requested, and the display of the last request.
+    /// The client for which the focus of each display was last requested.
     pub(crate) requested: [Option<Client>; 4],
-    pub(crate) asked: DisplayId,
     /// The channels whose clients are choked.
     pub(crate) choked: u64,
     /// Whether the windows that are shown are these, with walls in place of those of choked clients.
@@ -48,7 +47,6 @@ impl Model for Wanted {
       most = w.most;
       windows = w.windows.items;
       requested = w.requested;
-      asked = w.asked;
       choked = w.choked;
       is_shown = w.is_shown;
     } };
@@ -63,7 +61,6 @@ impl Wanted {
             most,
             windows: Vec::new(alloc),
             requested: [None; 4],
-            asked: DisplayId::zero(),
             choked: 0,
             is_shown: true,
         }
@@ -97,13 +94,6 @@ impl Wanted {
         ensures { result ≡ self.now.most }
     {
         self.most
-    }
-
-    /// The display of the last request.
-    pub(crate) fn asked(&self) -> DisplayId
-        ensures { result ≡ self.now.asked }
-    {
-        self.asked
     }
 
     /// The channels whose clients are choked.

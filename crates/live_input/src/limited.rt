@@ -1,17 +1,16 @@
 //! A service with a limit of unreceived messages: how it begins, what it is asked, and time that passes.
-ghost use Rattle.std.specs.Prelude.{◌≡◌, ◌==◌, ◌&&◌, ◌⊎◌, [], ℕ, true, false, None, Some, Err, List, replicate, IfOk, IsOk, OnOk, OnErr};
+ghost use Rattle.std.specs.Prelude.{◌≡◌, ◌==◌, ◌&&◌, [], ℕ, true, false, None, Some, Err, List, replicate, IfOk, IsOk, OnOk, OnErr};
 ghost use Rattle.dispatch_history.specs.Effect.{Effect};
 ghost use Rattle.dispatcher.specs.Memory.{MayCount};
-ghost use Rattle.live_input.specs.Advancing.{Advances, Advanced};
-ghost use Rattle.live_input.specs.Answers.{SameSeats};
-ghost use Rattle.live_input.specs.Easing.{EasedFirst, GoesEased, IsCalm};
-ghost use Rattle.live_input.specs.Giving.{HandedInPart, notified};
+ghost use Rattle.live_input.specs.Answers.{SameClients, SameSeats};
+ghost use Rattle.live_input.specs.Easing.{IsCalm};
 ghost use Rattle.live_input.specs.Limit.{first_wanted};
 ghost use Rattle.live_input.specs.LimitedCalls.{ClosesEased, is_right_without, released_on};
 ghost use Rattle.live_input.specs.Seats.{is_open, vacant};
 ghost use Rattle.live_input.specs.Settling.{due_of, next_due};
 ghost use Rattle.live_input.specs.Slots.{none_down};
 ghost use Rattle.live_input.specs.Standing.{IsMaskOfHeld, LiveIs};
+ghost use Rattle.live_input.specs.Stepwise.{DoesAll, DoesPart, StepsAll, StepsOrNot};
 ghost use Rattle.live_input.specs.State.{latest};
 ghost use Rattle.window_snapshot.specs.Mask.{mask_has};
 
@@ -19,7 +18,8 @@ use crate::client::Client;
 use crate::limit::{Limited, Wanted, has_window};
 use crate::live::Live;
 use crate::refused::CloseRefused;
-use dispatch_calls::Terms;
+use crate::settling::next_due;
+use dispatch_calls::{Call, Terms};
 use input_types::{Displays, Moment};
 use std::alloc::{AllocError, Global};
 use window_snapshot::{mask_has, mask_without};
@@ -121,17 +121,15 @@ impl Limited {
         }
     }
 
-    /// As [`Live::advance`], after choking and releasing clients. The mask has those that were choked too.
+    /// Hands in what still waits to be handed in, and then runs everything that is due up to now, one call after
+    /// another, each at its time. Before each of them it chokes and releases clients, so no client runs past the limit
+    /// by more than one of them. Returns the mask of the channels whose clients were reported unresponsive or choked,
+    /// by this call or by earlier ones, and are still open.
     pub fn advance(&mut self, now: Moment) -> Result<u64, AllocError>
         ensures ok { (ds : List ℕ) (es : List Effect) → LiveIs ds es self.old.live
-            → IfOk result (λ mask. GoesEased ds (latest now self.old.live) es self.old (λ fs eased.
-            Advanced ds (latest now self.old.live) (notified ds (latest now self.old.live) fs eased.live.pending)
-            mask eased.live self.new.live × (self.new.wanted ≡ eased.wanted))) }
+            → IfOk result (λ mask. StepsAll ds (latest now self.old.live) es mask self.old self.new) }
         ensures err { (ds : List ℕ) (es : List Effect) → LiveIs ds es self.old.live
-            → OnErr result (EasedFirst ds (latest now self.old.live) es self.old self.new (Unit {0}) (λ fs eased.
-            (HandedInPart ds (latest now self.old.live) fs eased.live.pending self.new.live
-            ⊎ Advances ds (latest now self.old.live) (notified ds (latest now self.old.live) fs eased.live.pending)
-            eased.live self.new.live) × (self.new.wanted ≡ eased.wanted))) }
+            → OnErr result (StepsOrNot ds (latest now self.old.live) es self.old self.new) }
         ensures reported { (ds : List ℕ) (es : List Effect) → LiveIs ds es self.old.live
             → IfOk result (λ mask. IsMaskOfHeld mask self.old.live.seats) }
         ensures none { OnOk result (self.new.live.pending ≡ []) }
@@ -142,10 +140,34 @@ impl Limited {
         ensures devices { self.new.live.devices ≡ self.old.live.devices }
         ensures seats { SameSeats self.old.live self.new.live }
     {
-        match self.ease(now) {
-            Ok(()) => self.live.advance(now),
+        let now = self.live.raise(now);
+        match self.live.hand_in(now) {
+            Ok(_) => self.catch_up(now),
             Err(error) => Err(error),
         }
+    }
+
+    /// Runs everything that is due up to now, which is the clock. Before each call it chokes and releases clients.
+    fn catch_up(&mut self, now: Moment) -> Result<u64, AllocError>
+        ensures ok { (ds : List ℕ) (es : List Effect) → LiveIs ds es self.old.live → self.old.live.clock ≡ now
+            → IfOk result (λ mask. DoesAll ds now es mask self.old self.new) }
+        ensures err { (ds : List ℕ) (es : List Effect) → LiveIs ds es self.old.live → self.old.live.clock ≡ now
+            → OnErr result (DoesPart ds now es self.old self.new) }
+        ensures reported { (ds : List ℕ) (es : List Effect) → LiveIs ds es self.old.live → self.old.live.clock ≡ now
+            → IfOk result (λ mask. IsMaskOfHeld mask self.old.live.seats) }
+        ensures still { (ds : List ℕ) (es : List Effect) → LiveIs ds es self.old.live → self.old.live.clock ≡ now
+            → IsCalm es self.old → next_due now es ≡ None → IsOk result }
+        ensures clients { SameClients self.old.live self.new.live }
+        ensures clock { self.old.live.clock ≡ now → self.new.live.clock ≡ now }
+    {
+        for made in 0..u64::MAX {
+            self.ease(now)?;
+            let Some(call) = self.live.next_call(now) else {
+                return Ok(self.live.take_reported());
+            };
+            self.live.note(&call)?;
+        }
+        Err(AllocError)
     }
 }
 
@@ -155,6 +177,23 @@ impl Live {
         ensures { result ≡ (self.now.reported == 0) }
     {
         self.reported == 0
+    }
+
+    /// The next of everything that is due up to now.
+    fn next_call(&self, now: Moment) -> Option<Call>
+        ensures { (ds : List ℕ) (es : List Effect) → LiveIs ds es self.now → result ≡ next_due now es }
+    {
+        next_due(&self.dispatcher, now)
+    }
+
+    /// The channels that were reported and not yet returned: they are returned now.
+    fn take_reported(&mut self) -> u64
+        ensures mask { result ≡ self.old.reported }
+        ensures rest { self.new ≡ record self.old { reported = 0 } }
+    {
+        let reported = self.reported;
+        self.reported = 0;
+        reported
     }
 }
 

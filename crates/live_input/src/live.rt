@@ -43,7 +43,7 @@ pub struct Live {
     /// How many clients were opened so far.
     pub(crate) opened: u64,
     pub(crate) windows: Snapshot,
-    /// The channel for which the focus of each display was last requested, and the display of the last request.
+    /// The channel for which the focus of each display was last requested, and the display whose focus gets keys.
     pub(crate) requested: [Option<u32>; 4],
     pub(crate) asked: DisplayId,
     /// The channels whose clients were reported unresponsive by an `advance` that ran out of memory.

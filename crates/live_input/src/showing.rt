@@ -3,6 +3,7 @@ ghost use Rattle.std.specs.Prelude.{◌≡◌, ◌≤◌, ℕ, ◌-◌, true, fa
 ghost use Rattle.dispatch_calls.specs.declared.call.Call.TheVariants.{Windows, FocusOn};
 ghost use Rattle.dispatch_history.specs.Effect.{Effect};
 ghost use Rattle.dispatch_history.specs.Legal.{answered};
+ghost use Rattle.focus_resolver.specs.Resolver.{keyed_after};
 ghost use Rattle.live_input.specs.Answers.{SameClients, SameRest};
 ghost use Rattle.live_input.specs.Showing.{FocusGoes, may_ask, channel_of};
 ghost use Rattle.live_input.specs.Standing.{AreOfHeld, IsOfSome, LiveIs};
@@ -67,41 +68,46 @@ impl Live {
         }
     }
 
-    /// Requests the focus of a display for a channel, or for none. If memory runs out, nothing changes.
+    /// Requests the focus of a display for a channel, or for none. If `keys` is set, keys go to this display from now
+    /// on. If memory runs out, nothing changes.
     pub(crate) fn request(
         &mut self,
         now: Moment,
         display: DisplayId,
         channel: Option<u32>,
+        keys: bool,
     ) -> Result<(), AllocError>
         ensures after { (ds : List ℕ) (es : List Effect) → LiveIs ds es self.old → IsOfSome channel self.old.seats
-            → OnOk result (LiveIs ds (answered ds (FocusOn now display channel) es) self.new) }
+            → OnOk result (LiveIs ds (answered ds (FocusOn now display channel keys) es) self.new) }
         ensures requests { OnOk result
-            ((self.new.requested ≡ slice_set self.old.requested display channel) × (self.new.asked ≡ display)) }
+            ((self.new.requested ≡ slice_set self.old.requested display channel)
+            × (self.new.asked ≡ keyed_after keys display self.old.asked)) }
         ensures rest { SameRest self.old self.new }
         ensures windows { self.new.windows ≡ self.old.windows }
         ensures err { OnErr result (self.new ≡ self.old) }
     {
-        match self.dispatcher.request(now, display, channel) {
+        match self.dispatcher.request(now, display, channel, keys) {
             Ok(_) => {
                 self.steps.go_all(&self.dispatcher);
                 self.requested[usize::from(display.get())] = channel;
-                self.asked = display;
+                self.asked = keyed(keys, display, self.asked);
                 Ok(())
             }
             Err(error) => Err(error),
         }
     }
 
-    /// Requests the focus of a display for a client, or for none. Keys go to the display of the last request.
+    /// Requests the focus of a display for a client, or for none. If `keys` is set, keys go to the focused window of
+    /// this display from now on; if not, they go where they went.
     pub fn focus(
         &mut self,
         now: Moment,
         display: DisplayId,
         client: Option<Client>,
+        keys: bool,
     ) -> Result<(), FocusRefused>
         ensures after { (ds : List ℕ) (es : List Effect) → LiveIs ds es self.old
-            → FocusGoes ds (latest now self.old) display client es result self.old self.new }
+            → FocusGoes ds (latest now self.old) display client keys es result self.old self.new }
         ensures stale { may_ask self.old.seats client ≡ false
             → (result ≡ Err FocusRefused.NotOpen) × (self.new ≡ self.old) }
         ensures clients { SameClients self.old self.new }
@@ -113,7 +119,7 @@ impl Live {
             return Err(FocusRefused::NotOpen);
         }
         let now = now.later(self.clock);
-        match self.request(now, display, channel_of(client)) {
+        match self.request(now, display, channel_of(client), keys) {
             Ok(()) => {
                 self.clock = now;
                 Ok(())
@@ -121,6 +127,13 @@ impl Live {
             Err(_) => Err(FocusRefused::Memory),
         }
     }
+}
+
+/// The display whose focus gets keys after a request, by where they went.
+fn keyed(keys: bool, display: DisplayId, before: DisplayId) -> DisplayId
+    ensures { result ≡ keyed_after keys display before }
+{
+    if keys { display } else { before }
 }
 
 /// Whether this is no client, or an open one.

@@ -1,5 +1,5 @@
 //! Windows and the focus, where clients may be choked.
-ghost use Rattle.std.specs.Prelude.{◌≡◌, ℕ, false, map, Err, List, IfOk, OnOk, OnErr};
+ghost use Rattle.std.specs.Prelude.{◌≡◌, ℕ, true, false, map, Err, List, IfOk, OnOk, OnErr};
 ghost use Rattle.dispatch_calls.specs.declared.call.Call.TheVariants.{FocusOn, Windows};
 ghost use Rattle.dispatch_history.specs.Effect.{Effect};
 ghost use Rattle.live_input.specs.Answers.{Makes, SameClients};
@@ -107,8 +107,8 @@ impl Limited {
         }
     }
 
-    /// As [`Live::focus`], after choking and releasing clients. In place of a choked client the focus is requested for
-    /// nobody, until the client is released.
+    /// As [`Live::focus`], after choking and releasing clients; keys go to the display. In place of a choked client the
+    /// focus is requested for nobody, until the client is released.
     pub fn focus(
         &mut self,
         now: Moment,
@@ -133,8 +133,8 @@ impl Limited {
         }
     }
 
-    /// Requests the focus of a display for an open client, or for nobody in its place if it is choked. If memory runs
-    /// out, nothing changes.
+    /// Requests the focus of a display and takes keys there, for an open client, or for nobody in its place if it is
+    /// choked. If memory runs out, nothing changes.
     fn ask_for(
         &mut self,
         now: Moment,
@@ -143,7 +143,7 @@ impl Limited {
     ) -> Result<(), FocusRefused>
         ensures ok { (ds : List ℕ) (es : List Effect) → LiveIs ds es self.old.live
             → OnOk result (Makes ds es (FocusOn (latest now self.old.live) display
-            (channel_of (unless_choked self.old.wanted.choked client))) self.new.live
+            (channel_of (unless_choked self.old.wanted.choked client)) true) self.new.live
             × (self.new.wanted ≡ with_request display client self.old.wanted)) }
         ensures clients { SameClients self.old.live self.new.live }
         ensures named { self.new.live.reported ≡ self.old.live.reported }
@@ -151,7 +151,7 @@ impl Limited {
         ensures err { OnErr result ((self.new ≡ self.old) × (result ≡ Err FocusRefused.Memory)) }
     {
         let asked = self.wanted.unless_choked(client);
-        match self.live.focus(now, display, asked) {
+        match self.live.focus(now, display, asked, true) {
             Ok(()) => {
                 self.wanted.ask(display, client);
                 Ok(())
@@ -220,6 +220,5 @@ impl Wanted {
         ensures { self.new ≡ with_request display client self.old }
     {
         self.requested[usize::from(display.get())] = client;
-        self.asked = display;
     }
 }

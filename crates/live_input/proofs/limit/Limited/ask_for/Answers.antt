@@ -1,5 +1,5 @@
 -- The focus is requested for nobody in place of a choked client.
-use Rattle.std.proofs.Common.{refl, ap, subst}
+use Rattle.std.proofs.Common.{true, refl, ap, subst}
 use Rattle.dispatch_calls.specs.declared.call.Call.TheVariants.{FocusOn}
 use Rattle.live_input.specs.Answers.{Makes}
 use Rattle.live_input.specs.Showing.{channel_of}
@@ -9,7 +9,7 @@ use Rattle.live_input.proofs.limit.Limited.ask_for.Goals as goal
 
 pub returns-in-Ok-clause-ok : goal.returns-in-Ok-clause-ok
 returns-in-Ok-clause-ok c = λ ds es h. (
-  subst (λ k. Makes ds es (FocusOn (latest c.args.now c.args.self.now.live) c.args.display (channel_of k)) c.focus.new.self)
+  subst (λ k. Makes ds es (FocusOn (latest c.args.now c.args.self.now.live) c.args.display (channel_of k) true) c.focus.new.self)
       c.unless_choked-asked.ensures (c.in-Ok.ensures.after ds es h).1,
   c.ask.ensures,
 )

@@ -22,7 +22,7 @@ returns-in-Ok-clause-after c = λ ds es h.
     let may : may_ask old.live.seats k ≡ true = sym c.may_ask.ensures ∙ c.if-not-may_ask.false in
     asks_then ds (latest c.args.now old.live) y k es c.ask_for.result old eased new may (c.in-Ok.ensures.after ds es h)
     (λ fs there.
-    subst (λ t. OnOk c.ask_for.result (Makes ds fs (FocusOn t y (channel_of (unless_choked eased.wanted.choked k))) new.live
+    subst (λ t. OnOk c.ask_for.result (Makes ds fs (FocusOn t y (channel_of (unless_choked eased.wanted.choked k)) true) new.live
     × (new.wanted ≡ with_request y k eased.wanted))) at (c.ask_for.ensures.ok ds fs there)) c.ask_for.ensures.err
 
 pub returns-in-Err-clause-after : goal.returns-in-Err-clause-after
@@ -41,7 +41,7 @@ returns-then-not-may_ask-clause-reports c = λ ds es h. none_report c.args.self.
 
 pub returns-in-Ok-clause-reports : goal.returns-in-Ok-clause-reports
 returns-in-Ok-clause-reports c = λ ds es h.
-    reports_after c.args.self.now c.ease.new.self c.ask_for.new.self (eases_report ds _ 6 es c.args.self.now c.ease.new.self (c.in-Ok.ensures.after ds es h).1)
+    reports_after c.args.self.now c.ease.new.self c.ask_for.new.self (eases_report ds _ 5 es c.args.self.now c.ease.new.self (c.in-Ok.ensures.after ds es h).1)
     c.ask_for.ensures.named c.ask_for.ensures.choked
 
 pub returns-in-Err-clause-reports : goal.returns-in-Err-clause-reports

@@ -31,7 +31,7 @@ returns-in-Ok-clause-named c = subst (λ m. KeepsReported c.args.self.now.live.r
 
 pub returns-in-Ok-clause-reports : goal.returns-in-Ok-clause-reports
 returns-in-Ok-clause-reports c = λ ds es h.
-    reports_after c.args.self.now c.ease.new.self c.show_walled.new.self (eases_report ds _ 6 es c.args.self.now c.ease.new.self (c.in-Ok.ensures.after ds es h).1)
+    reports_after c.args.self.now c.ease.new.self c.show_walled.new.self (eases_report ds _ 5 es c.args.self.now c.ease.new.self (c.in-Ok.ensures.after ds es h).1)
     c.show_walled.ensures.named c.show_walled.ensures.choked
 
 pub returns-in-Err-clause-reports : goal.returns-in-Err-clause-reports

@@ -77,7 +77,7 @@ returns-then-not-has_device-clause-reports c = λ ds es h. none_report c.args.se
 pub returns-in-Ok-clause-reports : goal.returns-in-Ok-clause-reports
 returns-in-Ok-clause-reports c = λ ds es h.
     reports_after c.args.self.now c.ease.new.self (limited c.touch_frame.new.self c.ease.new.self.wanted)
-    (eases_report ds _ 6 es c.args.self.now c.ease.new.self (c.in-Ok.ensures.after ds es h).1) c.touch_frame.ensures.named refl
+    (eases_report ds _ 5 es c.args.self.now c.ease.new.self (c.in-Ok.ensures.after ds es h).1) c.touch_frame.ensures.named refl
 
 pub returns-in-Err-clause-reports : goal.returns-in-Err-clause-reports
 returns-in-Err-clause-reports c = λ ds es h. let x = c.in-Err.ensures.after ds es h in eases_report ds _ x.0 es c.args.self.now c.ease.new.self x.1

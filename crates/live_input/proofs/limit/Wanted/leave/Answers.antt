@@ -9,7 +9,7 @@ pub returns : goal.returns
 returns c =
     let k = c.args.channel in
     let s = c.self.inside in
-    let was : Wanted = record { most = s.most; windows = s.windows.items; requested = s.requested; asked = s.asked; choked = s.choked; is_shown = s.is_shown } in
+    let was : Wanted = record { most = s.most; windows = s.windows.items; requested = s.requested; choked = s.choked; is_shown = s.is_shown } in
     let four : length s.requested ≡ 4 = omega arith in
     left_is k was c.drop_window.new.windows.items _ _ _ _ _ c.drop_window.ensures four c.unless_of.ensures c.unless_of-2.ensures c.unless_of-3.ensures
     c.unless_of-4.ensures (c.shown_without-self-inside.ensures ∙ ap (λ b. s.is_shown && not b) (c.has_window-has.ensures ∙ ap (has_window k) c.deref.ensures.value))

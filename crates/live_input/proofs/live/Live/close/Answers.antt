@@ -3,8 +3,6 @@ use Rattle.std.proofs.Common.{None, slice_index_or, not, ◌==◌, ◌&&◌, sym
 use Rattle.window_snapshot.specs.Mask.{mask_has}
 use Rattle.window_snapshot.specs.Named.{is_named}
 use Rattle.focus_resolver.specs.Resolver.{is_at}
-use Rattle.dispatch_history.specs.Effect.{past_of}
-use Rattle.dispatch_history.specs.Focus.{asked}
 use Rattle.live_input.specs.Answers.{SameRest}
 use Rattle.live_input.specs.Seats.{IsHeld, is_held, left_vacant, seat_of, with_seat}
 use Rattle.live_input.specs.Standing.{LiveIs}
@@ -77,5 +75,5 @@ returns-in-Err-clause-after c = λ ds es h is.
         fingers_are = clients.fingers_are;
       },
       c.empty.ensures.rest.clock_is ∙ ap (λ (s : LiveState). s.clock) rest,
-      subst (λ n. TakenInPart ds n k (asked (past_of es)) es c.empty.new.self) c.raise-now.ensures.latest (c.in-Err.ensures.part ds es raised held),
+      subst (λ n. TakenInPart ds n k es c.empty.new.self) c.raise-now.ensures.latest (c.in-Err.ensures.part ds es raised held),
     )

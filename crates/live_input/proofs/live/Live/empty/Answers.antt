@@ -1,7 +1,5 @@
 -- What a client had is taken from it, step by step.
 use Rattle.std.proofs.Common.{None, slice_index_or, sym, ap, ◌∙◌, subst}
-use Rattle.dispatch_history.specs.Effect.{past_of}
-use Rattle.dispatch_history.specs.Focus.{asked}
 use Rattle.dispatch_history.specs.Ordered.{extend}
 use Rattle.live_input.specs.Closing.{hidden}
 use Rattle.live_input.specs.Seats.{IsHeld, is_held, seat_of}
@@ -26,7 +24,7 @@ returns-clause-part c = λ ds es h held.
     let b = c.in_ok-forget.ensures.part ds fs (c.in_ok-hide.ensures.after ds es h) in
     let still : IsHeld c.args.channel c.forget.new.self.seats = (held.0, held.1, ap (λ ss. is_held (seat_of ss c.args.channel)) (c.forget.ensures.rest.seats_are ∙ c.hide.ensures.rest.seats_are) ∙ held.2) in
     taken_hidden ds c.args.now c.args.channel es _
-    (taken_left ds c.args.now c.args.channel (asked (past_of fs)) fs _ _ b (c.drain.ensures.goes ds (extend ds fs b.calls) b.is still))
+    (taken_left ds c.args.now c.args.channel fs _ _ b (c.drain.ensures.goes ds (extend ds fs b.calls) b.is still))
 
 pub returns-clause-hidden : goal.returns-clause-hidden
 returns-clause-hidden c =
@@ -45,7 +43,7 @@ returns-clause-unasked c = λ ds es h.
 
 pub returns-in_err-hide-clause-part : goal.returns-in_err-hide-clause-part
 returns-in_err-hide-clause-part c = λ ds es h held.
-    taken_none ds c.args.now c.args.channel _ es _ (subst (LiveIs ds es) (sym c.in_err-hide.ensures.err) h)
+    taken_none ds c.args.now c.args.channel es _ (subst (LiveIs ds es) (sym c.in_err-hide.ensures.err) h)
 
 pub returns-in_err-forget-clause-part : goal.returns-in_err-forget-clause-part
 returns-in_err-forget-clause-part c = λ ds es h held.

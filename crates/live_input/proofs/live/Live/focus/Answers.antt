@@ -16,6 +16,6 @@ returns-in-Ok-clause-after c = λ ds es h.
     sym (ap (λ (s : LiveState). may_ask s.seats c.args.client) c.self.view_is) ∙ sym c.may_ask.ensures ∙ c.if-not-may_ask.false in
     let own = subst (λ o. IsOfSome o c.args.self.now.seats) (sym c.channel_of.ensures) (asks_held c.args.self.now.seats c.args.client may) in (
       may,
-      made ds es _ c.later-now.result _ _ (ap₂ (λ n k. FocusOn n c.args.display k) at c.channel_of.ensures) at
+      made ds es _ c.later-now.result _ _ (ap₂ (λ n k. FocusOn n c.args.display k c.args.keys) at c.channel_of.ensures) at
           (subst (LiveIs ds _) (sym c.self-2.view_is) (c.in-Ok.ensures.after ds es h own)),
     )
