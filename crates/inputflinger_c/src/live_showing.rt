@@ -1,11 +1,10 @@
 //! The windows of a live service, the focus, and what can be asked about its clients.
-ghost use Rattle.std.specs.Prelude.{◌≡◌, ⊤, nat_eq};
+ghost use Rattle.std.specs.Prelude.{◌≡◌, ⊤};
 ghost use Rattle.plain_calls.specs.Calling.{Reads, Replies};
 ghost use Rattle.plain_calls.specs.Clients.{client_of, maybe_client};
 ghost use Rattle.plain_calls.specs.Numbers.{display_of, moment_of};
 ghost use Rattle.plain_calls.specs.Replies.{focus_status};
 ghost use Rattle.plain_calls.specs.Showing.{Asked, NothingShown, ReplacesRead, ShowsRead};
-ghost use Rattle.plain_calls.specs.Status.{no_memory};
 ghost use Rattle.plain_calls.specs.Windows.{one_from, windows_from};
 ghost use Rattle.inputflinger_c.specs.Serving.{OnService};
 
@@ -26,8 +25,7 @@ pub extern "C" fn inputflinger_proved_live_windows(
 ) -> u32
     ensures { OnService live.old.cell.state result live.new.cell.state (named.new ≡ named.old)
         (λ old new. Reads (moment_of now_us) result (NothingShown old new named.old named.new)
-        (λ now. ShowsRead (nat_eq result no_memory) (windows_from windows.now rects.now) result now old new
-        named.old named.new)) }
+        (λ now. ShowsRead (windows_from windows.now rects.now) result now old new named.old named.new)) }
 {
     let Some(mut service) = live.take(alloc) else {
         return FREE;
@@ -48,8 +46,7 @@ pub extern "C" fn inputflinger_proved_live_window(
 ) -> u32
     ensures { OnService live.old.cell.state result live.new.cell.state ⊤
         (λ old new. Reads (moment_of now_us) result (new ≡ old)
-        (λ now. ReplacesRead (nat_eq result no_memory) (client_of window.now.client) (one_from window.now rects.now)
-        result now old new)) }
+        (λ now. ReplacesRead (client_of window.now.client) (one_from window.now rects.now) result now old new)) }
 {
     let Some(mut service) = live.take(alloc) else {
         return FREE;

@@ -1,5 +1,5 @@
 -- What is due, and what devices deliver, in terms of the service.
-use Rattle.std.specs.Prelude.{◌≡◌, ◌⊎◌, ◌==◌, ◌≤◌, ◌-◌, ◌*◌, ℕ, ℤ, true, false, List, [], ◌∷◌, slice_set, Option, Some, None, Result, Err, IfOk, IsOk, OnOk, OnErr}
+use Rattle.std.specs.Prelude.{◌≡◌, ◌==◌, ◌≤◌, ◌-◌, ◌*◌, ℕ, ℤ, true, false, List, [], ◌∷◌, slice_set, Option, Some, None, Result, Err, IfOk, IsOk, OnOk, OnErr}
 use Rattle.std.specs.declared.alloc.AllocError.{AllocError}
 use Rattle.input_types.specs.declared.message.Args.{Args}
 use Rattle.input_types.specs.declared.message.Args.TheVariants.{Reset}
@@ -15,16 +15,16 @@ use Rattle.live_input.specs.declared.refused.AddRefused.{AddRefused}
 use Rattle.live_input.specs.declared.refused.AddRefused.TheVariants.{BadSlots}
 use Rattle.live_input.specs.declared.refused.ArgsRefused.{ArgsRefused}
 use Rattle.live_input.specs.declared.refused.ArgsRefused.TheVariants.{Inconsistent, Memory, NoDevice}
-use Rattle.live_input.specs.Advancing.{Advances, Advanced}
 use Rattle.live_input.specs.Answers.{SameSeats}
 use Rattle.live_input.specs.LimitedCalls.{ReportsChoked}
-use Rattle.live_input.specs.Easing.{EasedFirst, GoesEased, IsCalm, KeepsReported}
-use Rattle.live_input.specs.Giving.{Gives, GivesEvent, HandedInPart, IsFed, notified}
+use Rattle.live_input.specs.Easing.{EasedFirst, IsCalm, KeepsReported}
+use Rattle.live_input.specs.Giving.{Gives, GivesEvent, IsFed}
 use Rattle.live_input.specs.Plugging.{Adds, is_slots}
 use Rattle.live_input.specs.Room.{GivesAtOnce, HasRoom, most_args}
 use Rattle.live_input.specs.Settling.{due_of, next_due, waits}
 use Rattle.live_input.specs.Slots.{none_down}
 use Rattle.live_input.specs.Standing.{IsMaskOfHeld, LiveIs}
+use Rattle.live_input.specs.Stepwise.{StepsAll, StepsOrNot}
 use Rattle.live_input.specs.declared.limit.Limited.{Limited}
 use Rattle.live_input.specs.State.{latest}
 
@@ -38,17 +38,10 @@ pub record IsDue (s : Limited) (r : Option ℕ) : Type 0 where
 pub record CaughtUp (now : ℕ) (old new : Limited) (r : Result ℕ AllocError) : Type 0 where
   pub ok :
       (ds : List ℕ) (es : List Effect) → LiveIs ds es old.live
-      → IfOk r (λ mask. GoesEased ds (latest now old.live) es old (λ fs eased.
-      Advanced ds (latest now old.live) (notified ds (latest now old.live) fs eased.live.pending) mask eased.live new.live
-      × (new.wanted ≡ eased.wanted)))
+      → IfOk r (λ mask. StepsAll ds (latest now old.live) es mask old new)
+  pub err : (ds : List ℕ) (es : List Effect) → LiveIs ds es old.live → OnErr r (StepsOrNot ds (latest now old.live) es old new)
   pub reported : (ds : List ℕ) (es : List Effect) → LiveIs ds es old.live → IfOk r (λ mask. IsMaskOfHeld mask old.live.seats)
   pub none : OnOk r (new.live.pending ≡ [])
-  pub err :
-      (ds : List ℕ) (es : List Effect) → LiveIs ds es old.live
-      → OnErr r (EasedFirst ds (latest now old.live) es old new (Unit {0}) (λ fs eased.
-      (HandedInPart ds (latest now old.live) fs eased.live.pending new.live
-      ⊎ Advances ds (latest now old.live) (notified ds (latest now old.live) fs eased.live.pending) eased.live new.live)
-      × (new.wanted ≡ eased.wanted)))
   pub still :
       (ds : List ℕ) (es : List Effect) → LiveIs ds es old.live → IsCalm es old → MayCount es → old.live.pending ≡ [] → next_due (latest now old.live) es ≡ None
       → IsOk r

@@ -1,11 +1,10 @@
 //! Windows, and the focus.
-ghost use Rattle.std.specs.Prelude.{◌≡◌, nat_eq, Some};
-ghost use Rattle.plain_calls.specs.Calling.{Reads, Replies};
+ghost use Rattle.std.specs.Prelude.{◌≡◌};
+ghost use Rattle.plain_calls.specs.Calling.{Reads, Replies, written};
 ghost use Rattle.plain_calls.specs.Clients.{client_of, maybe_client};
 ghost use Rattle.plain_calls.specs.Numbers.{display_of, moment_of};
-ghost use Rattle.plain_calls.specs.Replies.{focus_status};
-ghost use Rattle.plain_calls.specs.Showing.{Asked, NothingShown, ReplacesRead, ShowsRead};
-ghost use Rattle.plain_calls.specs.Status.{no_memory};
+ghost use Rattle.plain_calls.specs.Replies.{focus_status, named_by, window_status, windows_status};
+ghost use Rattle.plain_calls.specs.Showing.{Asked, NothingShown, Replaced, ReplacesRead, Shown, ShowsRead};
 ghost use Rattle.plain_calls.specs.Windows.{one_from, windows_from};
 
 use crate::client::PlainClient;
@@ -29,8 +28,7 @@ pub fn windows(
     named: &mut u64,
 ) -> u32
     ensures { Reads (moment_of now_us) result (NothingShown live.old live.new named.old named.new)
-        (λ now. ShowsRead (nat_eq result no_memory) (windows_from rows.now rects.now) result now live.old live.new
-        named.old named.new) }
+        (λ now. ShowsRead (windows_from rows.now rects.now) result now live.old live.new named.old named.new) }
 {
     let Some(now) = moment_of(now_us) else {
         return RANGE;
@@ -44,8 +42,8 @@ pub fn windows(
 
 /// Shows the windows.
 fn show(live: &mut Limited, now: Moment, windows: Vec<ClientWindow>, named: &mut u64) -> u32
-    ensures { ShowsRead (nat_eq result no_memory) (Some windows.items) result now live.old live.new
-        named.old named.new }
+    ensures { Replies windows_status result (λ r. Shown now windows.items live.old live.new r
+        × (named.new ≡ written (λ n. n) (named_by r) named.old)) }
 {
     match live.windows(now, windows) {
         Ok(()) => OK,
@@ -73,8 +71,7 @@ pub fn window(
     rects: &[PlainRect],
 ) -> u32
     ensures { Reads (moment_of now_us) result (live.new ≡ live.old)
-        (λ now. ReplacesRead (nat_eq result no_memory) (client_of row.now.client) (one_from row.now rects.now)
-        result now live.old live.new) }
+        (λ now. ReplacesRead (client_of row.now.client) (one_from row.now rects.now) result now live.old live.new) }
 {
     let Some(now) = moment_of(now_us) else {
         return RANGE;
@@ -88,7 +85,7 @@ pub fn window(
 
 /// Replaces the window.
 fn put(live: &mut Limited, now: Moment, client: Client, info: WindowInfo) -> u32
-    ensures { ReplacesRead (nat_eq result no_memory) client (Some info) result now live.old live.new }
+    ensures { Replies window_status result (Replaced now client info live.old live.new) }
 {
     match live.window(now, client, info) {
         Ok(()) => OK,
