@@ -778,7 +778,8 @@ int inputflinger_live_user_data(const struct inputflinger_live *live, const stru
 
 /*
  * Closes a client. Its window is no longer shown, what it holds is cancelled, its focus requests are withdrawn, and
- * messages that it did not receive are gone.
+ * messages that it did not receive are gone. Keys stay on the display to which they went, and a key that another client
+ * holds stays down.
  *
  *     INPUTFLINGER_OK            the client is stale from now on
  *     INPUTFLINGER_OUT_OF_RANGE  now_us
@@ -858,7 +859,7 @@ static inline int inputflinger_live_window(struct inputflinger_live *live, uint6
 
 /*
  * Requests the focus of a display, 0 to 3, for a client, or for none if client is NULL or its channel is 0. Keys go to
- * the display of the last request.
+ * the display of the last of these calls.
  *
  *     INPUTFLINGER_OK            the focus is requested
  *     INPUTFLINGER_OUT_OF_RANGE  now_us or display
@@ -1021,9 +1022,10 @@ int inputflinger_live_is_choked(const struct inputflinger_live *live, const stru
 int inputflinger_live_due(const struct inputflinger_live *live, uint64_t *moment_us);
 
 /*
- * Dispatches the input that still waits for memory, and then runs everything that is due up to now, each at its time. mask
- * has the channels of the open clients that this call reported as unresponsive, of those that earlier calls reported before
- * they ran out of memory, and of those that were choked since the last mask.
+ * Dispatches the input that still waits for memory, and then runs everything that is due up to now, each at its time.
+ * Clients are choked and released before each thing that is due. mask has the channels of the open clients that this call
+ * reported as unresponsive, of those that earlier calls reported before they ran out of memory, and of those that were
+ * choked since the last mask.
  *
  *     INPUTFLINGER_OK            mask is written
  *     INPUTFLINGER_OUT_OF_RANGE  now_us
