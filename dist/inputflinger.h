@@ -281,7 +281,7 @@ struct inputflinger_message {
 
 /* Why a message is not allowed: the first reason for its kind that holds. */
 enum inputflinger_reason {
-	/* None of those below: no line of a stream file can say such a message, for example a key with other flags. */
+	/* None of those below: no line of a stream file can spell such a message, for example a key with other flags. */
 	INPUTFLINGER_REASON_NONE = 0,
 	/* A motion other than POINTER_UP has a flag that is no mark, such as CANCELED, or an OUTSIDE has a mark. */
 	INPUTFLINGER_REASON_FLAGS = 1,
@@ -291,7 +291,7 @@ enum inputflinger_reason {
 	INPUTFLINGER_REASON_ONE_POINTER = 3,
 	/*
 	 * A motion goes on or ends while no pointer is down. A MOVE that lists no pointers is accepted then; no line of a
-	 * stream file can say it.
+	 * stream file can spell it.
 	 */
 	INPUTFLINGER_REASON_NOTHING_DOWN = 4,
 	/* The listed pointers are not those that are down, apart from the one that goes down. */
@@ -464,9 +464,10 @@ enum inputflinger_occlusion {
 /*
  * A window of a client, or of nobody. A client has one window at most; any number may be of nobody.
  *
- *     client     the owner; a zeroed client, whose channel is 0, makes the window a wall: it is touched as others are, and
- *                nobody is given what it takes. Show one for a client that could not be opened, or touches fall through
- *                to the window behind. A wall is no spy, does not watch, does not prevent splitting, and has no focus
+ *     client     the client that is sent its touches and keys; a zeroed client, whose channel is 0, makes the window a
+ *                wall: it takes touches as others do, and nobody is given them. Show one for a client that could not be
+ *                opened, or touches fall through to the window behind. A wall is no spy, does not watch, does not
+ *                prevent splitting, and has no focus
  *     frame      where it is; its left and top edges are the origin of the positions that the client is sent, in pixels
  *     flags      the bits above
  *     rects      the number of rectangles in which it can be touched, at most 64; they are passed beside the windows
@@ -478,7 +479,7 @@ enum inputflinger_occlusion {
  *
  * Where its frame is, a window lies over all windows behind it. A window of another owner behind it is either blocked
  * there, and then given no pointer, or has its motions marked as obscured. A window of opacity 0 that is not touchable does
- * neither to those behind it. If all windows have one owner, as zeroed structs have, opacity and occlusion mean nothing.
+ * neither to those behind it. If all windows have one owner, as zeroed structs have, opacity and occlusion have no effect.
  */
 struct inputflinger_window {
 	struct inputflinger_client client;
@@ -555,8 +556,8 @@ struct inputflinger_live {
 
 /*
  * Makes a service without clients and devices. A client that leaves a message unfinished for limit_us, 1,000 to
- * 600,000,000 microseconds, is reported as unresponsive. repeats may be NULL: then held keys are repeated as Android does
- * it, after {500000, 50000}. displays may be NULL: then each device is on display 0. None of this changes later.
+ * 600,000,000 microseconds, is reported as unresponsive. If repeats is NULL, held keys are repeated as on Android, with
+ * {500000, 50000}. If displays is NULL, each device is on display 0. None of this changes later.
  *
  * A key goes down at 1,000,000 in a client's window and stays down. The limit is 5,000,000, and the client finishes nothing:
  *
@@ -565,8 +566,8 @@ struct inputflinger_live {
  *     {300000, 40000}      1,300,000, 1,340,000, ..        the same, sooner
  *     {0, 0}               6,000,000                       no repeat: the client is reported
  *
- * The handle comes first, and of the numbers all are read before anything else: a handle that is not free is reported
- * even if a number is out of its range.
+ * The handle is checked first, and then all numbers. So a handle that is not free is reported even if a number is out of
+ * its range.
  *
  *     INPUTFLINGER_OK            the handle has a service
  *     INPUTFLINGER_TAKEN         the handle is not free
@@ -616,7 +617,7 @@ static inline int inputflinger_live_add_touch(struct inputflinger_live *live, ui
 /*
  * Plugs in a device with keys on a display, 0 to 3, and writes its number to device. Its layout is a text of len bytes in
  * the form of Android's .kl files: a line `key 30 A` gives the kernel's scan code 30 the key code of A, and a scan code
- * without a line has key code 0. text may be NULL if len is 0: then all have 0. line may be NULL.
+ * without a line has key code 0. text may be NULL if len is 0: then every key code is 0. line may be NULL.
  *
  *     add_keys(display 0, "key 30 A\n")               INPUTFLINGER_OK, device 1
  *     event 1: EV_KEY 30 1                            INPUTFLINGER_OK: the window with the focus has a key, code 29
@@ -660,10 +661,10 @@ int inputflinger_live_event(struct inputflinger_live *live, uint64_t now_us, uin
 			    uint16_t code, int32_t value);
 
 /*
- * Single fingers of a panel, as libinput and wlroots report them: each by a touch id, which may be any number that no other
- * finger on the panel has, at positions in the units of the panel, and then a frame. Each call says to the panel's reader
- * what a panel of slots would say as events, so a frame gives what these events would give. A panel that these calls drive
- * is to get no events and no args besides. A finger that goes down and up within one frame gives nothing. A finger that is
+ * Single fingers of a panel, as libinput and wlroots report them. Each finger has a touch id, which may be any number that
+ * no other finger on the panel has, and a position in the units of the panel; a frame follows. Each call hands the panel's
+ * reader the events that a panel with slots would send, so a frame gives the motions of these events. Hand in no other
+ * events and no args for such a panel. A finger that goes down and up within one frame gives nothing. A finger that is
  * refused leaves all fingers as they are, and only the clock advances.
  *
  *     touch_down 7 at (540,1200)           INPUTFLINGER_OK
@@ -742,8 +743,8 @@ struct inputflinger_options {
 	/* Any number of yours, such as the address of your record of the client. Each message of the client has it. */
 	uint64_t user_data;
 	/*
-	 * 1 if the client finishes by itself: each message is finished as soon as inputflinger_live_next or
-	 * inputflinger_live_next_any hands it out, at the clock. Otherwise 0.
+	 * 1 if the client finishes by itself: each message is finished, at the clock, as soon as inputflinger_live_next or
+	 * inputflinger_live_next_any receives it. Otherwise 0.
 	 */
 	uint8_t finishes;
 };
@@ -777,7 +778,8 @@ int inputflinger_live_user_data(const struct inputflinger_live *live, const stru
 
 /*
  * Closes a client. Its window is no longer shown, what it holds is cancelled, its focus requests are withdrawn, and
- * messages that it did not receive are gone.
+ * messages that it did not receive are gone. Keys stay on the display to which they went, and a key that another client
+ * holds stays down.
  *
  *     INPUTFLINGER_OK            the client is stale from now on
  *     INPUTFLINGER_OUT_OF_RANGE  now_us
@@ -838,7 +840,7 @@ static inline int inputflinger_live_windows(struct inputflinger_live *live, uint
 }
 
 /*
- * Replaces the window of a client by this one, as a window that moves needs it. Its place in the order and all other windows
+ * Replaces the window of a client by this one, for example when it moves. Its place in the order and all other windows
  * stay. rects has the rectangles of the window; rectangles left over are ignored. rects may be NULL if rects_len is 0.
  *
  *     INPUTFLINGER_OK            the window is shown
@@ -857,7 +859,7 @@ static inline int inputflinger_live_window(struct inputflinger_live *live, uint6
 
 /*
  * Requests the focus of a display, 0 to 3, for a client, or for none if client is NULL or its channel is 0. Keys go to
- * the display of the last request.
+ * the display of the last of these calls.
  *
  *     INPUTFLINGER_OK            the focus is requested
  *     INPUTFLINGER_OUT_OF_RANGE  now_us or display
@@ -868,7 +870,7 @@ int inputflinger_live_focus(struct inputflinger_live *live, uint64_t now_us, uin
 			    const struct inputflinger_client *client);
 
 /*
- * Lets a client whose window is a spy take the pointers of a device, 1 to 8, that it holds away from all other windows.
+ * Lets a client's spy pilfer: it takes the pointers of a device, 1 to 8, that it holds from all other windows.
  *
  *     INPUTFLINGER_OK            the others are sent cancels
  *     INPUTFLINGER_OUT_OF_RANGE  now_us or device
@@ -895,7 +897,7 @@ int inputflinger_live_pilfer(struct inputflinger_live *live, uint64_t now_us, co
 int inputflinger_live_waiting(const struct inputflinger_live *live, uint64_t *mask);
 
 /*
- * Hands a client its next message, which the service releases. Its seq counts from 1 for the client; its positions are
+ * Receives the next message of a client; the service releases it. Its seq counts from 1 for the client; its positions are
  * pixels from the corner of the client's window.
  *
  *     INPUTFLINGER_OK         message is written; numbers that its kind does not have are 0
@@ -909,22 +911,22 @@ static inline int inputflinger_live_next(struct inputflinger_live *live, const s
 }
 
 /*
- * Hands out the next message of any client, in the order in which the service sent them, and releases it. Each client
- * gets the messages that inputflinger_live_next would hand it, in the same order. Between clients, the messages of an
- * earlier step come first. A step is one change of the windows or the focus, or one motion or key that a device gave; an
+ * Receives the next message of any client, in the order in which the service sent them; the service releases it. Each
+ * client gets the messages that inputflinger_live_next would give it, in the same order. Between clients, the messages of
+ * an earlier step come first. A step is one change of the windows or the focus, or one motion or key that a device gave; an
  * event can give several. Of one step, motions come before keys and keys before the focus; of each, what ends comes
  * first, then what goes on, then what begins; and then the lesser channel comes first. A message that had to wait,
  * because its client had 64 unfinished ones, counts as sent by the finish that made room for it.
  *
  *     the focus moves from channel 2, which holds a key, to channel 1
  *     next_any                                        INPUTFLINGER_OK: channel 2, the key goes up, cancelled
- *     next_any                                        INPUTFLINGER_OK: channel 2, it has no focus
- *     next_any                                        INPUTFLINGER_OK: channel 1, it has the focus, last
+ *     next_any                                        INPUTFLINGER_OK: channel 2, it loses the focus
+ *     next_any                                        INPUTFLINGER_OK: channel 1, it gets the focus, last
  *     next_any                                        INPUTFLINGER_NOTHING
  *
- *     INPUTFLINGER_OK         client, message and last are written: *last is true if no message of the same step is left
- *                             to hand out, as at the end of a frame of wl_touch; numbers that the kind of the message
- *                             does not have are 0
+ *     INPUTFLINGER_OK         client, message and last are written: *last is true if no other message of the same step
+ *                             is left to receive, as at the end of a frame of wl_touch; numbers that the kind of the
+ *                             message does not have are 0
  *     INPUTFLINGER_NOTHING    no client has a message; none of the three is written
  *     INPUTFLINGER_NO_MEMORY  only if the calls can no longer be counted in 64 bits; nothing changed
  */
@@ -966,12 +968,12 @@ int inputflinger_live_finish_through(struct inputflinger_live *live, uint64_t no
 				     const struct inputflinger_client *client, uint64_t seq);
 
 /*
- * A client that does not receive. Before each call that may send something, the service looks at how many messages each
- * client has that it did not receive. A client with more than the most, 10,000 unless set_most says otherwise, is choked:
- * the next advance reports it, a wall takes the place of its window (that of a spy lets touches through), and the focus is
- * requested for nobody in its place. So it loses what it holds by the usual messages and is sent nothing more. Once it has
- * finished everything that it was sent, it is released: it has its window and the focus again, as windows, window and
- * focus last asked for them.
+ * A client that does not receive. Before each call that may send something, the service counts the messages that each
+ * client has not received. A client that has more than the limit, 10,000 unless set_most changes it, is choked: the next
+ * advance reports it, a wall takes the place of its window (that of a spy lets touches through), and its focus is
+ * requested for nobody. It is sent the usual messages for what it loses, and then nothing more. Once it has finished
+ * everything that it was sent, it is released: its window and its focus are again as windows, window and focus last asked
+ * for them.
  *
  *     set_most 2                                      INPUTFLINGER_OK
  *     focus(0, a), args DOWN, args MOVE, args MOVE    INPUTFLINGER_OK each: a has 4 messages, and receives none
@@ -982,15 +984,15 @@ int inputflinger_live_finish_through(struct inputflinger_live *live, uint64_t no
  *                                                     INPUTFLINGER_OK: a is to be released
  *     advance                                         INPUTFLINGER_OK, mask 0: a has its window and the focus again
  *
- * A call that may send something does this first. So if it then runs out of memory, or refuses a finger, a pilfer or input
- * that does not fit, it may have advanced the clock, and choked or released clients, also where it says that nothing else
- * changed.
+ * A call that may send something does this first. If it then runs out of memory, or refuses a finger, a pilfer or input
+ * that does not fit, it may already have advanced the clock and choked or released clients, even where its text says that
+ * nothing changed.
  */
 
 /*
  * Sets how many messages a client may leave unreceived.
  *
- *     INPUTFLINGER_OK  the next call that may send something holds to it
+ *     INPUTFLINGER_OK  the limit holds from the next call that may send something
  */
 int inputflinger_live_set_most(struct inputflinger_live *live, uint64_t most);
 
@@ -1011,8 +1013,8 @@ int inputflinger_live_is_choked(const struct inputflinger_live *live, const stru
 
 /*
  * Reports the first time at which something is due: a client that leaves a message unfinished for the limit, or, if keys
- * are repeated, the repeat of a held key. It may be later than 10^18. While input waits for memory, it is the clock, and
- * so it is while a client is to be choked or released, or was choked and is not reported yet.
+ * are repeated, the repeat of a held key. The time may be later than 10^18. It is the clock while input waits for memory,
+ * while a client is to be choked or released, and while a choked client is not reported yet.
  *
  *     INPUTFLINGER_OK       moment_us is written
  *     INPUTFLINGER_NOTHING  nothing is due
@@ -1020,9 +1022,10 @@ int inputflinger_live_is_choked(const struct inputflinger_live *live, const stru
 int inputflinger_live_due(const struct inputflinger_live *live, uint64_t *moment_us);
 
 /*
- * Runs everything that is due up to now, each at its time, after input that still waits for memory. mask has the channels
- * of the open clients that were reported as unresponsive by this call, and by calls before it that ran out of memory, and
- * of those that were choked since the last mask.
+ * Dispatches the input that still waits for memory, and then runs everything that is due up to now, each at its time.
+ * Clients are choked and released before each thing that is due. mask has the channels of the open clients that this call
+ * reported as unresponsive, of those that earlier calls reported before they ran out of memory, and of those that were
+ * choked since the last mask.
  *
  *     INPUTFLINGER_OK            mask is written
  *     INPUTFLINGER_OUT_OF_RANGE  now_us
@@ -1081,8 +1084,8 @@ int inputflinger_live_holds(const struct inputflinger_live *live, const struct i
  *
  * A key is down from the input that puts it down to the one that lifts it, and no longer than until its device is removed
  * or reset; it does not matter whether a client was sent it. A window that gets the focus while a key is down is sent
- * nothing for that key, neither a DOWN then nor an UP when the key goes up. A client that shall know of such keys, such as
- * one of Wayland by wl_keyboard.enter, is told by you.
+ * nothing for that key, neither a DOWN then nor an UP when the key goes up. If a client must know of such keys, send it a
+ * list of them yourself, as a Wayland compositor does with wl_keyboard.enter.
  *
  *     INPUTFLINGER_OK            scan is written
  *     INPUTFLINGER_NOTHING       no key from there on is down, or there is no such device
